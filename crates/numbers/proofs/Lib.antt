@@ -1,0 +1,12 @@
+pub mod Cases
+pub mod Numbers
+pub mod Upto
+pub mod First
+pub mod Count
+pub mod Every
+pub mod Bits
+pub mod Bytes
+pub mod Lowest
+pub mod Memory
+pub mod Sum
+pub mod Subsets

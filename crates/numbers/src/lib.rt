@@ -1,0 +1,109 @@
+// Bytes read as numbers, and the bits of numbers.
+ghost use mathlib.Core.Path.{_≡_};
+ghost use Prim.Native.Nat.{ℕ, _+_, _-_, _*_, _^_, _<_, _≤_};
+ghost use lib.ListN.{length, getD, replicate};
+ghost use lib.Bits.{bitOr};
+ghost use Rattle.numbers.specs.Numbers.{number, oneIf};
+ghost use Rattle.numbers.specs.Bits.{bit, within, disjoint, IsLowestBit};
+
+// The byte at a place: it is below 256, which an index alone does not say.
+pub fn byte(bytes: &[u8], at: usize) -> u8
+    requires { ⌜ at < length (now bytes) ⌝ }
+    ensures { λ r. ⌜ r ≡ getD (now (bytes .entry)) at 0 ⌝ }
+{
+    bytes[at]
+}
+
+// The number that two bytes make, the most significant first.
+pub fn number2(bytes: &[u8], at: usize) -> u16
+    requires { ⌜ at + 2 ≤ length (now bytes) ⌝ }
+    ensures { λ r. ⌜ r ≡ number (now (bytes .entry)) at 2 ⌝ }
+{
+    let a = byte(bytes, at) as u16;
+    let b = byte(bytes, at + 1) as u16;
+    a * 256 + b
+}
+
+// The number that four bytes make, the most significant first.
+pub fn number4(bytes: &[u8], at: usize) -> u32
+    requires { ⌜ at + 4 ≤ length (now bytes) ⌝ }
+    ensures { λ r. ⌜ r ≡ number (now (bytes .entry)) at 4 ⌝ }
+{
+    let a = byte(bytes, at) as u32;
+    let b = byte(bytes, at + 1) as u32;
+    let c = byte(bytes, at + 2) as u32;
+    let d = byte(bytes, at + 3) as u32;
+    ((a * 256 + b) * 256 + c) * 256 + d
+}
+
+// The number that eight bytes make, the most significant first.
+pub fn number8(bytes: &[u8], at: usize) -> u64
+    requires { ⌜ at + 8 ≤ length (now bytes) ⌝ }
+    ensures { λ r. ⌜ r ≡ number (now (bytes .entry)) at 8 ⌝ }
+{
+    let high = number4(bytes, at) as u64;
+    let low = number4(bytes, at + 4) as u64;
+    high * 4294967296 + low
+}
+
+// The number whose only bit is v.
+pub fn weight(v: usize) -> u64
+    requires { ⌜ v < 64 ⌝ }
+    ensures { λ r. ⌜ r ≡ 2 ^ v ⌝ }
+{
+    1 << v
+}
+
+pub fn bit_of(number: u64, v: usize) -> bool
+    requires { ⌜ v < 64 ⌝ }
+    ensures { λ r. ⌜ r ≡ bit number v ⌝ }
+{
+    (number >> v) % 2 == 1
+}
+
+// The number with bit v too.
+pub fn with_bit(number: u64, v: usize) -> u64
+    requires { ⌜ v < 64 ⌝ }
+    ensures { λ r. ⌜ r ≡ bitOr number (2 ^ v) ⌝ }
+{
+    number | weight(v)
+}
+
+pub fn is_within(a: u64, b: u64) -> bool
+    ensures { λ r. ⌜ r ≡ within a b ⌝ }
+{
+    a & b == a
+}
+
+pub fn is_disjoint(a: u64, b: u64) -> bool
+    ensures { λ r. ⌜ r ≡ disjoint a b ⌝ }
+{
+    a & b == 0
+}
+
+// The lowest bit of a number that is not 0.
+pub fn lowest_bit(number: u64) -> usize
+    requires { ⌜ 0 < number ⌝ }
+    ensures { λ r. ⌜ IsLowestBit 64 number r ⌝ }
+{
+    u64::trailing_zeros(number) as usize
+}
+
+// The number without bit v.
+pub fn without_bit(number: u64, v: usize) -> u64
+    requires { ⌜ v < 64 ⌝ }
+    ensures { λ r. ⌜ r ≡ number - oneIf (bit number v) * 2 ^ v ⌝ }
+{
+    number - (((number >> v) % 2) << v)
+}
+
+// All bytes 0.
+pub fn clear(bytes: &mut [u8])
+    ensures { λ r. ⌜ now (bytes .exit) ≡ replicate (length (now (bytes .entry))) 0 ⌝ }
+{
+    let mut i = 0;
+    while i < bytes.len() {
+        bytes[i] = 0;
+        i += 1;
+    }
+}
