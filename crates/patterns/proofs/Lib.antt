@@ -1,0 +1,5 @@
+pub mod Filled
+pub mod Reading
+pub mod Answers
+pub mod Comparison
+pub mod InOrder
