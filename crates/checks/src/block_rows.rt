@@ -1,0 +1,67 @@
+// The rows of blocks. What is written of one: code, place, used.
+ghost use mathlib.Core.Path.{_≡_};
+ghost use Prim.Native.Nat.{_<_};
+ghost use lib.ListN.{length};
+use crate::text;
+use records::Answer;
+
+const RECORD_BYTES: usize = 16;
+
+// Four records more than a block may have.
+const ROOM: usize = 65600;
+
+pub(crate) fn block_row(row: &[u8]) {
+    let mut block = io::buffer();
+    let n = text::hex_bytes(row, &mut block);
+    put_answer(records::check_block(&block[0..n]));
+}
+
+pub(crate) fn events_row(row: &[u8]) {
+    let n_at = text::next_word(row, 0);
+    let extra_at = text::next_word(row, n_at);
+    let place_at = text::next_word(row, extra_at);
+    let byte_at = text::next_word(row, place_at);
+    let n = text::number(row, n_at);
+    let mut block = room();
+    set_times(&mut block, n);
+    set(
+        &mut block,
+        text::number(row, place_at),
+        text::number(row, byte_at),
+    );
+    let length = text::least(RECORD_BYTES * n + text::number(row, extra_at), ROOM);
+    put_answer(records::check_block(&block[0..length]));
+}
+
+fn room() -> [u8; 65600]
+    ensures { λ r. ⌜ 65600 ≡ length r ⌝ }
+{
+    [0; 65600]
+}
+
+// Gives record i the time i + 1.
+fn set_times(block: &mut [u8], n: usize)
+    requires { ⌜ n < 100000 ⌝ }
+{
+    let mut i = 0;
+    while i < n {
+        set(block, RECORD_BYTES * i + 5, (i + 1) / 256);
+        set(block, RECORD_BYTES * i + 6, i + 1);
+        i += 1;
+    }
+}
+
+// Sets a byte to the low eight bits of a value, where the block has the place.
+fn set(block: &mut [u8], place: usize, value: usize) {
+    if place < block.len() {
+        block[place] = (value % 256) as u8;
+    }
+}
+
+fn put_answer(answer: Answer) {
+    text::put_number(answer.code as u64);
+    text::put(b" ");
+    text::put_number(answer.place as u64);
+    text::put(b" ");
+    text::put_number(answer.used as u64);
+}
