@@ -1,0 +1,10 @@
+pub mod Lists
+pub mod Ordered
+pub mod Listing
+pub mod All
+pub mod Promise
+pub mod Sinks
+pub mod Words
+pub mod Answers
+pub mod Choices
+pub mod Counts

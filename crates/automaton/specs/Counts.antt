@@ -1,0 +1,28 @@
+-- How many steps the sets of a pattern give.
+use mathlib.Core.Bool.{_&&_}
+use mathlib.Core.List.{List}
+use Prim.Native.Nat.{ℕ, _+_, _-_, _*_, _^_}
+use lib.Dec.{eqb}
+use Rattle.numbers.specs.Numbers.{count, field}
+use Rattle.patterns.specs.declared.Pattern.{Pattern}
+use Rattle.patterns.specs.Checked.{setOf, isGroup}
+use Rattle.automaton.specs.Lists.{filter}
+
+-- how many variables a set has, and how many of them are group variables
+abbrev pub setSize : Pattern → ℕ → ℕ
+setSize p set = count (λ v. eqb (setOf p v) set) (p .n)
+
+abbrev pub groupSize : Pattern → ℕ → ℕ
+groupSize p set = count (λ v. eqb (setOf p v) set && isGroup p v) (p .n)
+
+-- the variable of a step
+abbrev pub stepVariable : ℕ → ℕ
+stepVariable word = field 4 48 word
+
+-- the steps that a set gives: those on its variables, the merged states' among them
+abbrev pub stepsOfSet : Pattern → ℕ → List ℕ → List ℕ
+stepsOfSet p set l = filter (λ w. eqb (setOf p (stepVariable w)) set) l
+
+-- A set of k variables, g of them group, gives (k+g) times 2^(k-1) steps.
+abbrev pub stepsGiven : Pattern → ℕ → ℕ
+stepsGiven p set = (setSize p set + groupSize p set) * 2 ^ (setSize p set - 1)

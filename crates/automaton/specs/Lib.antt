@@ -1,0 +1,5 @@
+pub mod Lists
+pub mod Automaton
+pub mod Listing
+pub mod Steps
+pub mod Counts

@@ -1,0 +1,68 @@
+-- What the listing of the automaton promises, from the bytes of the pattern to the answer and the bytes of the slice lent.
+use mathlib.Core.Path.{_≡_}
+use mathlib.Core.List.{List, [], _∷_, _++_}
+use Prim.Native.Nat.{ℕ, _-_, _*_, _/_, _≤_, _<_}
+use lib.ListN.{length, replicate}
+use Rattle.numbers.specs.Numbers.{field}
+use Rattle.records.specs.declared.Answer.{Answer}
+use Rattle.records.specs.Blocks.{refused}
+use Rattle.patterns.specs.Checked.{patternAnswer, patternOf}
+use Rattle.automaton.specs.Lists.{collect}
+use Rattle.automaton.specs.Automaton.{IsListing}
+
+-- one 64-bit number a step: eight bytes, high first
+abbrev pub stepBytes : ℕ
+stepBytes = 8
+
+unfoldable pub wordBytes : ℕ → List ℕ
+wordBytes word =
+    field 8 56 word
+    ∷ field 8 48 word
+    ∷ field 8 40 word
+    ∷ field 8 32 word
+    ∷ field 8 24 word
+    ∷ field 8 16 word
+    ∷ field 8 8 word
+    ∷ field 8 0 word
+    ∷ []
+
+-- the bytes of a listing
+abbrev pub listingBytes : List ℕ → List ℕ
+listingBytes l = collect wordBytes l
+
+-- how many steps a slice of so many bytes holds
+abbrev pub stepRoom : ℕ → ℕ
+stepRoom lent = lent / stepBytes
+
+abbrev pub allZero : ℕ → List ℕ
+allZero lent = replicate lent 0
+
+-- its success gives the count of steps
+abbrev pub stepsListed : ℕ → Answer
+stepsListed count = record { code = 0; place = 0; used = count; readings = 0; peak = 0 }
+
+-- Listing gives 1 to 4, then 12: for the bytes of a pattern and a slice of `lent` bytes, the answer, and the slice's bytes
+-- after the call. With a refusal the slice is all 0, and so are unused numbers and left-over bytes.
+pub data ListingPromise (pattern : List ℕ) (lent : ℕ) (answer : Answer) (after : List ℕ) : Type 0 where
+  badPattern :
+      ¬ (patternAnswer pattern .code ≡ 0) →
+      answer ≡ refused (patternAnswer pattern .code) (patternAnswer pattern .place) →
+      after ≡ allZero lent →
+      ListingPromise pattern lent answer after
+  -- 12: listing slice too short
+  noRoom :
+      patternAnswer pattern .code ≡ 0 →
+      (l : List ℕ) →
+      IsListing (patternOf pattern) l →
+      stepRoom lent < length l →
+      answer ≡ refused 12 0 →
+      after ≡ allZero lent →
+      ListingPromise pattern lent answer after
+  listed :
+      patternAnswer pattern .code ≡ 0 →
+      (l : List ℕ) →
+      IsListing (patternOf pattern) l →
+      length l ≤ stepRoom lent →
+      answer ≡ stepsListed (length l) →
+      after ≡ listingBytes l ++ allZero (lent - stepBytes * length l) →
+      ListingPromise pattern lent answer after
