@@ -1,0 +1,175 @@
+-- What the caller's bytes stand for. A block in order is a list of records, each an event or a gap, whose times rise; and
+-- the check of pattern and block accepts exactly what is in order, or gives a refusal from 1 to 7 with all counts 0.
+-- Assumes nothing.
+use mathlib.Core.Path.{_≡_, refl, sym, ap, subst, _∙_}
+use mathlib.Core.Logic.{_⊎_, inl, inr}
+use mathlib.Core.Bool.{false}
+use mathlib.Core.List.{List}
+use Prim.Native.Nat.{ℕ, zero, suc, _≤_, _<_}
+use native.Mathlib.Omega.{arith}
+use native.Mathlib.Decide.{ℕ-discrete}
+use lib.Dec.{eqb}
+use lib.ListN.{length}
+use borrow.Author.Tests.{lt-ltb, le-ltb, ltb-false, eqb-true, eqb-false, eq-eqb, ne-eqb}
+use Rattle.numbers.proofs.Cases.{by-test, by-order, neither}
+use Rattle.records.specs.declared.Answer.{Answer}
+use Rattle.records.specs.declared.Record.{Record}
+use Rattle.records.specs.Records.{recordAt, recordCount, gapKind}
+use Rattle.records.specs.Blocks.{refused, mostRecords, misfit, broken, late, recordRefusal, firstBad, blockAnswer, InOrder}
+use Rattle.records.proofs.Listed.{length-records, record-listed}
+use Rattle.records.proofs.Blocks.{refusal-6, refusal-7, refusal-none, answer-misfit, accepted-in-order as block-accepted, in-order-accepted}
+use Rattle.patterns.specs.declared.Checked.{Checked}
+use Rattle.patterns.specs.Patterns.{headerBytes, headerBroken, variableCount, conditionCount}
+use Rattle.patterns.specs.Checked.{patternAnswer, firstBadVariable, firstBadCondition, InOrder as PatternInOrder}
+use Rattle.patterns.proofs.InOrder.{accepted-in-order as pattern-accepted}
+use Rattle.patterns.proofs.Answers.{wholeLength, answer-short, answer-header, answer-length, answer-variable, answer-condition, answer-pattern}
+use Rattle.rule.specs.Rule.{Event, recordIn, timeAt, TimesNeverFall, behindEnd}
+use Rattle.rule.specs.Calls.{inputAnswer, patternIn, blockIn}
+
+-- ## The block
+
+module _ (bytes : List ℕ) where
+  -- A block has so many records, numbered from 0.
+  pub block-length : length (blockIn bytes) ≡ recordCount bytes
+  block-length = length-records bytes
+
+  pub block-record : (i : ℕ) → i < recordCount bytes → recordIn (blockIn bytes) i ≡ recordAt bytes i
+  block-record i h = record-listed bytes i behindEnd h
+
+  block-time : (i : ℕ) → i < recordCount bytes → timeAt (blockIn bytes) i ≡ recordAt bytes i .time
+  block-time i h = ap (λ (r : Record). r .time) (block-record i h)
+
+  module _ (ordered : InOrder bytes) where
+    rise : (i j : ℕ) → i < j → j < recordCount bytes → recordAt bytes i .time < recordAt bytes j .time
+    rise i zero l h = absurd (omega arith)
+    rise i (suc j) l h = go (rise i j) (ℕ-discrete i j)
+      where
+        go : (i < j → j < recordCount bytes → recordAt bytes i .time < recordAt bytes j .time) → Dec (i ≡ j) → recordAt bytes i .time < recordAt bytes (suc j) .time
+        go ih (yes e) = subst (λ k. recordAt bytes k .time < recordAt bytes (suc j) .time) (sym e) (ordered .rising j h)
+        go ih (no n) = omega (arith, ih (omega arith) (omega arith), ordered .rising j h)
+
+    -- Each record's time, gaps included, is above the one before.
+    pub times-rise : (i j : ℕ) → i < j → j < length (blockIn bytes) → timeAt (blockIn bytes) i < timeAt (blockIn bytes) j
+    times-rise i j l h = let c = block-length in omega (arith, rise i j l (omega arith), block-time i (omega arith), block-time j (omega arith))
+
+    pub times-never-fall : TimesNeverFall (blockIn bytes)
+    times-never-fall i j l h = go (ℕ-discrete i j)
+      where
+        go : Dec (i ≡ j) → timeAt (blockIn bytes) i ≤ timeAt (blockIn bytes) j
+        go (yes e) = omega (arith, ap (timeAt (blockIn bytes)) e)
+        go (no n) = omega (arith, times-rise i j (omega arith) h)
+
+    kind-most : (i : ℕ) → i < length (blockIn bytes) → recordIn (blockIn bytes) i .kind ≤ gapKind
+    unfolding broken
+    kind-most i h =
+        let c = block-length in
+        let e = ap (λ (r : Record). r .kind) (block-record i (omega arith)) in
+        omega (arith, ltb-false gapKind (recordAt bytes i .kind) (neither _ _ (ordered .sound i (omega arith)) .0))
+
+    -- kind: 0 event, 1 gap
+    pub event-or-gap : (i : ℕ) → i < length (blockIn bytes) → Event (blockIn bytes) i ⊎ (recordIn (blockIn bytes) i .kind ≡ gapKind)
+    event-or-gap i h = by-order (recordIn (blockIn bytes) i .kind) gapKind (λ l. inl (omega arith)) (λ l. inr (omega (arith, kind-most i h)))
+
+    -- A block has 0 to 4,096 records.
+    pub few-records : length (blockIn bytes) ≤ mostRecords
+    few-records = let c = block-length in omega (arith, ordered .few)
+
+-- ## What the checks answer
+
+-- a refusal has a number from one to another, and all counts 0
+pub record RefusedFrom (least most : ℕ) (answer : Answer) : Type 0 where
+  pub from : least ≤ answer .code
+  pub upTo : answer .code ≤ most
+  pub used : answer .used ≡ 0
+  pub readings : answer .readings ≡ 0
+  pub peak : answer .peak ≡ 0
+
+-- Checking a pattern gives 1 to 4.
+pub pattern-refusals : (bytes : List ℕ) → patternAnswer bytes .code ≤ 4
+pattern-refusals bytes =
+    by-order (length bytes) headerBytes
+    (λ h. coded (answer-short bytes h) (omega arith))
+    (λ long. by-test (headerBroken bytes)
+    (λ h. coded (answer-header bytes long h) (omega arith))
+    (λ head. by-test (eqb (length bytes) (wholeLength bytes))
+    (λ h. let whole = eqb-true (length bytes) (wholeLength bytes) h in
+    by-order (firstBadVariable bytes) (variableCount bytes)
+    (λ l. coded (answer-variable bytes long head whole (firstBadVariable bytes) refl l) (omega arith))
+    (λ variables. by-order (firstBadCondition bytes) (conditionCount bytes)
+    (λ l. coded (answer-condition bytes long head whole variables (firstBadCondition bytes) refl l) (omega arith))
+    (λ conditions. coded (answer-pattern bytes long head whole variables conditions) (omega arith))))
+    (λ h. coded (answer-length bytes long head (eqb-false (length bytes) (wholeLength bytes) h)) (omega arith))))
+  where
+    coded : {a : Checked} → patternAnswer bytes ≡ a → a .code ≤ 4 → patternAnswer bytes .code ≤ 4
+    coded e l = subst (λ (a : Checked). a .code ≤ 4) (sym e) l
+
+module _ (bytes : List ℕ) where
+  bad-record : misfit bytes ≡ false → firstBad bytes < recordCount bytes → blockAnswer bytes ≡ refused (recordRefusal bytes (firstBad bytes)) (firstBad bytes)
+  unfolding blockAnswer
+  bad-record m l = rw (m, lt-ltb (firstBad bytes) (recordCount bytes) l, blockAnswer)
+
+  no-bad-record : misfit bytes ≡ false → recordCount bytes ≤ firstBad bytes → blockAnswer bytes .code ≡ 0
+  unfolding blockAnswer
+  no-bad-record m l = rw (m, le-ltb (firstBad bytes) (recordCount bytes) l, blockAnswer)
+
+  -- checking a block 5 to 7
+  pub block-refusals : ¬ (blockAnswer bytes .code ≡ 0) → RefusedFrom 5 7 (blockAnswer bytes)
+  block-refusals n =
+      by-test (misfit bytes)
+      (λ m. told 5 0 (answer-misfit bytes m) (omega arith) (omega arith))
+      (λ m. by-order (firstBad bytes) (recordCount bytes) (λ l. of-record (bad-record m l)) (λ l. absurd (n (no-bad-record m l))))
+    where
+      told : (code place : ℕ) → blockAnswer bytes ≡ refused code place → 5 ≤ code → code ≤ 7 → RefusedFrom 5 7 (blockAnswer bytes)
+      told code place e l m = subst (RefusedFrom 5 7) (sym e) (record { from = l; upTo = m; used = refl; readings = refl; peak = refl })
+
+      of-record : {i : ℕ} → blockAnswer bytes ≡ refused (recordRefusal bytes i) i → RefusedFrom 5 7 (blockAnswer bytes)
+      of-record {i} e =
+          by-test (broken (recordAt bytes i))
+          (λ b. let q = refusal-6 bytes i b in told (recordRefusal bytes i) i e (omega arith) (omega arith))
+          (λ b. by-test (late bytes i)
+          (λ l. let q = refusal-7 bytes i b l in told (recordRefusal bytes i) i e (omega arith) (omega arith))
+          (λ l. absurd (n (ap (λ (a : Answer). a .code) e ∙ refusal-none bytes i b l))))
+
+-- ## Pattern and block
+
+-- the pattern and the block keep their rules
+pub record InputsInOrder (pattern block : List ℕ) : Type 0 where
+  pub checked : PatternInOrder (patternIn pattern)
+  pub ordered : InOrder block
+
+module _ (pattern block : List ℕ) where
+  -- a refusal of the pattern comes first
+  pub input-pattern : ¬ (patternAnswer pattern .code ≡ 0) → inputAnswer pattern block ≡ refused (patternAnswer pattern .code) (patternAnswer pattern .place)
+  unfolding inputAnswer
+  input-pattern n = rw (ne-eqb (patternAnswer pattern .code) 0 n, inputAnswer)
+
+  -- then the block is judged
+  pub input-block : patternAnswer pattern .code ≡ 0 → inputAnswer pattern block ≡ blockAnswer block
+  unfolding inputAnswer
+  input-block e = rw (eq-eqb (patternAnswer pattern .code) 0 e, inputAnswer)
+
+  by-input : {P : Type 0} → (¬ (patternAnswer pattern .code ≡ 0) → inputAnswer pattern block ≡ refused (patternAnswer pattern .code) (patternAnswer pattern .place) → P) → (patternAnswer pattern .code ≡ 0 → inputAnswer pattern block ≡ blockAnswer block → P) → P
+  by-input {P} first then = go (ℕ-discrete (patternAnswer pattern .code) 0)
+    where
+      go : Dec (patternAnswer pattern .code ≡ 0) → P
+      go (yes e) = then e (input-block e)
+      go (no n) = first n (input-pattern n)
+
+  -- code 0: both are accepted
+  pub input-accepts : inputAnswer pattern block .code ≡ 0 → (patternAnswer pattern .code ≡ 0) × (blockAnswer block .code ≡ 0)
+  input-accepts z = by-input
+      (λ n e. absurd (n (sym (ap (λ (a : Answer). a .code) e) ∙ z)))
+      (λ p e. (p, sym (ap (λ (a : Answer). a .code) e) ∙ z))
+
+  pub input-in-order : inputAnswer pattern block .code ≡ 0 → InputsInOrder pattern block
+  input-in-order z = let q = input-accepts z in record { checked = pattern-accepted pattern (q .0); ordered = block-accepted block (q .1) }
+
+  -- what is accepted gets code 0
+  pub input-accepted : patternAnswer pattern .code ≡ 0 → InOrder block → inputAnswer pattern block .code ≡ 0
+  input-accepted e o = ap (λ (a : Answer). a .code) (input-block e ∙ in-order-accepted block o)
+
+  -- any other code is a refusal from 1 to 7, with used, readings and peak 0
+  pub input-refused : ¬ (inputAnswer pattern block .code ≡ 0) → RefusedFrom 1 7 (inputAnswer pattern block)
+  input-refused n = by-input
+      (λ m e. subst (RefusedFrom 1 7) (sym e) (record { from = omega arith; upTo = omega (arith, pattern-refusals pattern); used = refl; readings = refl; peak = refl }))
+      (λ p e. subst (RefusedFrom 1 7) (sym e) (let q = block-refusals block (λ z. n (ap (λ (a : Answer). a .code) e ∙ z)) in record { from = omega (arith, q .from); upTo = q .upTo; used = q .used; readings = q .readings; peak = q .peak }))

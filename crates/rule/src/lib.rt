@@ -1,0 +1,1 @@
+// The reading rule and what the passes promise by it.
