@@ -1,0 +1,19 @@
+-- What is written into a lent result, as bytes: two for each 16-bit number, high first.
+use mathlib.Core.List.{List, [], _∷_, _++_}
+use Prim.Native.Nat.{ℕ, _+_, _*_}
+use lib.ListN.{length, take, drop}
+use Rattle.rule.specs.Rule.{Reading, packed, packBindings}
+
+-- one reported reading: head, then its bindings
+abbrev pub lineNumbers : ℕ → Reading → List ℕ
+lineNumbers mark r = packed mark (length r) ∷ packBindings r
+
+-- bytes written over a memory, from a place on
+abbrev pub written : List ℕ → ℕ → List ℕ → List ℕ
+written memory at bytes = take at memory ++ bytes ++ drop (at + length bytes) memory
+
+-- the numbers that bytes stand for
+unfoldable pub numbersOf : List ℕ → List ℕ
+numbersOf [] = []
+numbersOf (high ∷ []) = []
+numbersOf (high ∷ low ∷ l) = (high * 256 + low) ∷ numbersOf l
