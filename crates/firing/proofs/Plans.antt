@@ -1,0 +1,193 @@
+-- What stands at each place of a plan, and that the plan of a pattern in order can be followed. Assumes nothing.
+use mathlib.Core.Path.{_≡_, _∙_, sym, ap, ap₂}
+use mathlib.Core.Bool.{Bool, true, false, not, _&&_}
+use mathlib.Core.List.{List}
+use Prim.Native.Nat.{ℕ, _+_, _-_, _*_, _/_, _%_, _^_, _≤_, _<_}
+use native.Mathlib.Nat.{le-refl, lt-of-lt-of-le, not-suc-le-zero}
+use native.Mathlib.Omega.{arith}
+use borrow.Author.Tests.{lt-ltb, le-ltb, ltb-true, eqb-false, not-true}
+use lib.Dec.{eqb, ltb}
+use lib.ListN.{length, getD, set}
+use lib.Pow.{pow-mono}
+use Rattle.numbers.specs.Numbers.{field}
+use Rattle.numbers.specs.Bits.{bit, mask}
+use Rattle.numbers.proofs.Cases.{by-order, both}
+use Rattle.numbers.proofs.Bits.{mask-bound, mask-bit}
+use Rattle.patterns.specs.declared.Condition.{Condition}
+use Rattle.patterns.specs.declared.Pattern.{Pattern}
+use Rattle.patterns.specs.Patterns.{mostVariables, mostConditions, lastAttribute, lastOperator, conditionOf}
+use Rattle.patterns.specs.Checked.{conditionAt, InOrder}
+use Rattle.patterns.proofs.Filled.{filled-at, filled-more, filled-length}
+use Rattle.firing.specs.Plan.{planRoom, firstMask, firstJoins, maskPlace, wordOf, joins, isJoin, variableMask, joinMask, placeOf, planUpTo, planOf, conditionIn, beforeIn, afterIn, marksIn, joinsIn, Placed, IsPlan, Sound}
+
+-- ## Conditions
+
+-- a condition of which each field has its bits
+pub record Packs (k : Condition) : Type 0 where
+  pub variable : k .variable < 2 ^ 4
+  pub attribute : k .attribute < 2 ^ 3
+  pub operator : k .operator < 2 ^ 3
+  pub form : k .form < 2
+  pub variable2 : k .variable2 < 2 ^ 4
+  pub attribute2 : k .attribute2 < 2 ^ 3
+  pub constant : k .constant < 2 ^ 32
+
+-- fields by fields
+fields-back :
+    (word : ℕ) (k : Condition) → field 4 60 word ≡ k .variable
+    → field 3 57 word ≡ k .attribute
+    → field 3 54 word ≡ k .operator
+    → field 1 53 word ≡ k .form
+    → field 4 49 word ≡ k .variable2
+    → field 3 46 word ≡ k .attribute2
+    → field 32 0 word ≡ k .constant
+    → conditionOf word ≡ k
+unfolding conditionOf
+fields-back word k a b c d e f g = rw (a, b, c, d, e, f, g)
+
+module _ (k : Condition) (o : Packs k) where
+  pub word-back : conditionOf (wordOf k) ≡ k
+  unfolding wordOf
+  word-back =
+      fields-back (wordOf k) k
+      (omega arith)
+      (omega arith)
+      (omega arith)
+      (omega arith)
+      (omega arith)
+      (omega arith)
+      (omega arith)
+
+  pub word-bound : wordOf k < 2 ^ 64
+  unfolding wordOf
+  word-bound = omega arith
+
+pub condition-variable : (word : ℕ) → conditionOf word .variable < 16
+unfolding conditionOf
+condition-variable word = omega arith
+
+pub condition-variable2 : (word : ℕ) → conditionOf word .variable2 < 16
+unfolding conditionOf
+condition-variable2 word = omega arith
+
+-- ## Places
+
+module _ (p : Pattern) where
+  pub place-word : (i : ℕ) → i < firstMask → i < p .c → placeOf p i ≡ wordOf (conditionAt p i)
+  unfolding placeOf
+  place-word i h l = rw (lt-ltb i firstMask h, lt-ltb i (p .c) l, placeOf)
+
+  pub place-none : (i : ℕ) → i < firstMask → p .c ≤ i → placeOf p i ≡ 0
+  unfolding placeOf
+  place-none i h l = rw (lt-ltb i firstMask h, le-ltb i (p .c) l, placeOf)
+
+  pub place-mask : (place : ℕ) → firstMask ≤ place → place < firstJoins → placeOf p place ≡ variableMask p ((place - firstMask) / mostVariables) ((place - firstMask) % mostVariables)
+  unfolding placeOf
+  place-mask place h l = rw (le-ltb place firstMask h, lt-ltb place firstJoins l, placeOf)
+
+  pub place-joins : (place : ℕ) → firstJoins ≤ place → placeOf p place ≡ joinMask p (place - firstJoins)
+  unfolding placeOf
+  place-joins place h = rw (le-ltb place firstMask (omega arith), le-ltb place firstJoins h, placeOf)
+
+  pub plan-place : (place : ℕ) → place < planRoom → getD (planOf p) place 0 ≡ placeOf p place
+  unfolding planOf planUpTo
+  plan-place place h = filled-at planRoom 0 (placeOf p) planRoom place 0 h
+
+  pub plan-length : length (planOf p) ≡ planRoom
+  unfolding planOf planUpTo
+  plan-length = filled-length planRoom 0 (placeOf p) planRoom (le-refl planRoom)
+
+  -- a turn of the loop that fills the plan
+  pub plan-more : (plan : List ℕ) (place number : ℕ) → place < planRoom → plan ≡ planUpTo p place → number ≡ placeOf p place → set plan place number ≡ planUpTo p (place + 1)
+  unfolding planUpTo
+  plan-more plan place number h e f =
+      ap₂ (λ (l : List ℕ) (x : ℕ). set l place x) e f ∙ filled-more planRoom 0 (placeOf p) place h
+
+  pub upto-length : (place : ℕ) → place ≤ planRoom → length (planUpTo p place) ≡ planRoom
+  unfolding planUpTo
+  upto-length place h = filled-length planRoom 0 (placeOf p) place h
+
+  mask-at : (which v : ℕ) → which < 3 → v < mostVariables → getD (planOf p) (maskPlace which v) 0 ≡ variableMask p which v
+  mask-at which v h l =
+      let a : (maskPlace which v - firstMask) / mostVariables ≡ which = omega arith in
+      let b : (maskPlace which v - firstMask) % mostVariables ≡ v = omega arith in
+      plan-place (maskPlace which v) (omega arith) ∙ place-mask (maskPlace which v) (omega arith) (omega arith)
+      ∙ ap₂ (variableMask p) a b
+
+  joins-at : (v : ℕ) → v < mostVariables → getD (planOf p) (firstJoins + v) 0 ≡ joinMask p v
+  joins-at v l =
+      let a : (firstJoins + v) - firstJoins ≡ v = omega arith in
+      plan-place (firstJoins + v) (omega arith) ∙ place-joins (firstJoins + v) (omega arith) ∙ ap (joinMask p) a
+
+-- the first places give the conditions back
+pub record Backs (p : Pattern) (count : ℕ) : Type 0 where
+  pub one : (i : ℕ) → i < count → i < p .c → conditionOf (placeOf p i) ≡ conditionAt p i
+
+module _ (p : Pattern) where
+  pub backs-none : Backs p 0
+  backs-none = record { one = λ i h. absurd (not-suc-le-zero h) }
+
+  pub backs-more : (count number : ℕ) → Backs p count → Placed p count number → Backs p (count + 1)
+  backs-more count number b placed =
+      record {
+        one = λ i h l.
+            by-order i count (λ m. b .one i m l)
+            (λ m.
+            let e : i ≡ count = omega arith in
+            let small : count < p .c = omega arith in
+            ap (λ (j : ℕ). conditionOf (placeOf p j)) e ∙ ap conditionOf (sym (placed .is)) ∙ placed .back small ∙ ap (conditionAt p) (sym e));
+      }
+
+  pub plan-made : (plan : List ℕ) → p .c ≤ mostConditions → plan ≡ planUpTo p planRoom → Backs p planRoom → IsPlan p plan
+  unfolding planOf
+  plan-made plan few e b =
+      record {
+        made = e;
+        condition = λ i l.
+            ap (λ (q : List ℕ). conditionIn q i) e ∙ ap conditionOf (plan-place p i (omega arith)) ∙ b .one i (omega arith) l;
+      }
+
+-- ## The plan of a pattern
+
+module _ (p : Pattern) (plan : List ℕ) (is : IsPlan p plan) (v : ℕ) (l : v < mostVariables) where
+  pub before-in : beforeIn plan v ≡ variableMask p 0 v
+  before-in = ap (λ (q : List ℕ). beforeIn q v) (is .made) ∙ mask-at p 0 v (omega arith) l
+
+  pub after-in : afterIn plan v ≡ variableMask p 1 v
+  after-in = ap (λ (q : List ℕ). afterIn q v) (is .made) ∙ mask-at p 1 v (omega arith) l
+
+  pub marks-in : marksIn plan v ≡ variableMask p 2 v
+  marks-in = ap (λ (q : List ℕ). marksIn q v) (is .made) ∙ mask-at p 2 v (omega arith) l
+
+  pub joins-in : joinsIn plan v ≡ joinMask p v
+  joins-in = ap (λ (q : List ℕ). joinsIn q v) (is .made) ∙ joins-at p v l
+
+module _ (p : Pattern) (o : InOrder p) (plan : List ℕ) (is : IsPlan p plan) where
+  joins-bound : (v : ℕ) → joinMask p v < 2 ^ mostConditions
+  unfolding joinMask
+  joins-bound v = lt-of-lt-of-le (mask-bound (λ i. isJoin v (conditionAt p i)) (p .c)) (pow-mono (o .fewConditions))
+
+  joins-named : (v i : ℕ) → v < mostVariables → bit (joinsIn plan v) i ≡ true → conditionIn plan i .form ≡ 0 → ⊥
+  unfolding joinMask joins
+  joins-named v i l e f =
+      let named = both (ltb i (p .c)) (isJoin v (conditionAt p i)) (sym (mask-bit (λ k. isJoin v (conditionAt p k)) (p .c) i) ∙ ap (λ (x : ℕ). bit x i) (sym (joins-in p plan is v l)) ∙ e) in
+      let same = ap (λ (k : Condition). k .form) (is .condition i (ltb-true i (p .c) (named .0))) in
+      let other = eqb-false (conditionAt p i .form) 0 (not-true (eqb (conditionAt p i .form) 0) (both (not (eqb (conditionAt p i .form) 0)) _ (named .1) .0)) in
+      other (sym same ∙ f)
+
+  none-behind : (i : ℕ) → i < mostConditions → p .c ≤ i → conditionIn plan i .operator ≡ 0
+  unfolding conditionOf
+  none-behind i h l =
+      ap (λ (word : ℕ). conditionOf word .operator) (ap (λ (q : List ℕ). getD q i 0) (is .made) ∙ plan-place p i (omega arith) ∙ place-none p i h l)
+
+  pub sound-plan : Sound plan
+  sound-plan =
+      record {
+        size = ap length (is .made) ∙ plan-length p;
+        joins = λ v l. rw (joins-in p plan is v l) (joins-bound v);
+        form = joins-named;
+        operator = λ i h.
+            by-order i (p .c)
+            (λ l. rw (is .condition i l) (o .operator i l))
+            (λ l. omega (arith, none-behind i h l));
+      }

@@ -1,0 +1,104 @@
+-- `firing::pair_holds` meets its contract, by the side that v stands on and by the variable of the binding. Assumes nothing.
+use mathlib.Core.Path.{_≡_, _∙_, sym, ap, ap₂}
+use mathlib.Core.Bool.{Bool, true, false}
+use Prim.Native.Nat.{ℕ}
+use borrow.Author.Tests.{eq-eqb, ne-eqb}
+use lib.Dec.{eqb}
+use lib.IntN.{pos}
+use Rattle.records.specs.declared.Record.{Record}
+use Rattle.records.specs.Records.{recordAt}
+use Rattle.patterns.specs.Comparison.{value, orderOf, meets, raise}
+use Rattle.automaton.specs.Lists.{implies}
+use Rattle.rule.specs.Rule.{Binding}
+use Rattle.firing.proofs.Slots.{bindingAt}
+use Rattle.firing.proofs.Joins.{meets-first, meets-second}
+use borrow.Author.Needs.{needs}
+use Rattle.firing.proofs.pair_holds.Statement.{statement}
+use Rattle.firing.proofs.pair_holds.Tie as tie
+
+binding-variable-requires : tie.Need-binding-variable-requires
+binding-variable-requires c κs = search needs
+
+binding-record-requires : tie.Need-binding-record-requires
+binding-record-requires c κs = search needs
+
+cast-if1 : tie.Need-cast-if1
+cast-if1 c = search needs
+
+cast-if2 : tie.Need-cast-if2
+cast-if2 c = search needs
+
+returns : tie.Need-returns
+returns c =
+    let a = c .before .before .before .before .before .before .before .before .args in
+    let b = bindingAt (a .slot .now) (a .j) in
+    let other : eqb (b .variable) (a .k .variable2) ≡ false = ne-eqb _ _ (λ e. c .if2 .taken (c .before .before .before .before .before .binding-variable .ensures ∙ e)) in
+    sym (meets-first (a .block .now) (a .v) (a .k) b (a .x) (eq-eqb _ _ (c .before .before .if1 .taken)) ∙ rw other)
+
+unpack-requires : tie.Need-unpack-requires
+unpack-requires c κs = search needs
+
+raised-value-requires : tie.Need-raised-value-requires
+raised-value-requires c κs = search needs
+
+compare-requires : tie.Need-compare-requires
+compare-requires c κs = search needs
+
+returns-2 : tie.Need-returns-2
+returns-2 c =
+    let a = c .before .before .before .before .before .before .before .before .before .before .before .args in
+    let b = bindingAt (a .slot .now) (a .j) in
+    let same : eqb (b .variable) (a .k .variable2) ≡ true = eq-eqb _ _ (sym (c .before .before .before .before .before .before .before .before .binding-variable .ensures) ∙ c .before .before .before .if2 .left) in
+    let found : c .before .raised-value .result ≡ raise (value (a .k .attribute2) (recordAt (a .block .now) (b .at))) = cc in
+    c .compare .ensures
+    ∙ ap (λ (y : ℕ). meets (a .k .operator) (orderOf (pos (a .x)) (pos y))) found
+    ∙ sym (meets-first (a .block .now) (a .v) (a .k) b (a .x) (eq-eqb _ _ (c .before .before .before .before .before .if1 .taken)) ∙ rw same)
+
+cast-if3 : tie.Need-cast-if3
+cast-if3 c = search needs
+
+returns-3 : tie.Need-returns-3
+returns-3 c =
+    let a = c .before .before .before .before .before .before .before .before .args in
+    let b = bindingAt (a .slot .now) (a .j) in
+    let other : eqb (b .variable) (a .k .variable) ≡ false = ne-eqb _ _ (λ e. c .if3 .taken (c .before .before .before .before .before .binding-variable .ensures ∙ e)) in
+    sym (meets-second (a .block .now) (a .v) (a .k) b (a .x) (ne-eqb _ _ (c .before .before .if1 .left)) ∙ rw other)
+
+unpack-requires-2 : tie.Need-unpack-requires-2
+unpack-requires-2 c κs = search needs
+
+raised-value-requires-2 : tie.Need-raised-value-requires-2
+raised-value-requires-2 c κs = search needs
+
+compare-requires-2 : tie.Need-compare-requires-2
+compare-requires-2 c κs = search needs
+
+returns-4 : tie.Need-returns-4
+returns-4 c =
+    let a = c .before .before .before .before .before .before .before .before .before .before .before .args in
+    let b = bindingAt (a .slot .now) (a .j) in
+    let same : eqb (b .variable) (a .k .variable) ≡ true = eq-eqb _ _ (sym (c .before .before .before .before .before .before .before .before .binding-variable .ensures) ∙ c .before .before .before .if3 .left) in
+    let found : c .before .raised-value2 .result ≡ raise (value (a .k .attribute) (recordAt (a .block .now) (b .at))) = cc in
+    c .compare2 .ensures
+    ∙ ap (λ (y : ℕ). meets (a .k .operator) (orderOf (pos y) (pos (a .x)))) found
+    ∙ sym (meets-second (a .block .now) (a .v) (a .k) b (a .x) (ne-eqb _ _ (c .before .before .before .before .before .if1 .left)) ∙ rw same)
+
+pub pair-holds-spec : {M : Type 1} → statement M
+pair-holds-spec =
+    tie.close
+    (tie.spec
+    binding-variable-requires
+    binding-record-requires
+    cast-if1
+    cast-if2
+    returns
+    unpack-requires
+    raised-value-requires
+    compare-requires
+    returns-2
+    cast-if3
+    returns-3
+    unpack-requires-2
+    raised-value-requires-2
+    compare-requires-2
+    returns-4)

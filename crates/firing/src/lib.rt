@@ -1,0 +1,357 @@
+// Whether a step fires, in the parts that a pass settles one by one: a plan once a call, the new event's own conditions
+// once a record, the rest once a reading.
+ghost use mathlib.Core.Path.{_≡_};
+ghost use mathlib.Core.Bool.{Bool, true, false, _||_};
+ghost use Prim.Native.Nat.{ℕ, _+_, _-_, _*_, _/_, _%_, _^_, _<_, _≤_};
+ghost use lib.Dec.{eqb};
+ghost use lib.ListN.{length};
+ghost use Rattle.numbers.specs.Numbers.{number, oneIf};
+ghost use Rattle.numbers.specs.Bits.{bit};
+ghost use Rattle.records.specs.Records.{recordBytes, recordAt};
+ghost use Rattle.patterns.specs.Patterns.{mostVariables, mostConditions, lastOperator, conditionOf};
+ghost use Rattle.patterns.specs.Checked.{InOrder, conditionAt};
+ghost use Rattle.patterns.specs.Comparison.{value, raise, holds};
+ghost use Rattle.slots.specs.Slots.{bindingOf, bindingsIn, countIn, heldIn};
+ghost use Rattle.firing.specs.Plan.{planRoom, joins, standing, variableMask, joinMask, IsWord, Placed, IsPlan, Sound};
+ghost use Rattle.firing.specs.Firing.{settled, canBy, leavesBy, laterBy, sideOf, testedBy, pairMeets, joinsBy, firesBy, Fit};
+use patterns::Condition;
+use patterns::Pattern;
+use records::Record;
+
+// ## The plan
+
+const PLAN_ROOM: usize = 80;
+
+const MOST_VARIABLES: usize = 12;
+
+// Where the masks stand: before, after and marks for each variable, then joins.
+const FIRST_MASK: usize = 32;
+
+const FIRST_AFTER: usize = 44;
+
+const FIRST_MARKS: usize = 56;
+
+const FIRST_JOINS: usize = 68;
+
+// A condition as its 64 bits.
+fn word_of(
+    variable: u8,
+    attribute: u8,
+    operator: u8,
+    form: u8,
+    variable2: u8,
+    attribute2: u8,
+    constant: u32,
+) -> u64
+    requires { ⌜ (variable < 16) × (attribute < 8) × (operator < 8) × (form < 2) × (variable2 < 16) × (attribute2 < 8) ⌝ }
+    ensures { λ r. ⌜ IsWord (record { variable = variable; attribute = attribute; operator = operator; form = form; variable2 = variable2; attribute2 = attribute2; constant = constant }) r ⌝ }
+{
+    let first = (variable as u64 * 8 + attribute as u64) * 8 + operator as u64;
+    let second = ((first * 2 + form as u64) * 16 + variable2 as u64) * 8 + attribute2 as u64;
+    second * 70368744177664 + constant as u64
+}
+
+// Condition i as its 64 bits.
+fn word_at(p: Pattern, i: usize) -> u64
+    requires { ⌜ InOrder p × (i < p .c) ⌝ }
+    ensures { λ r. ⌜ IsWord (conditionAt p i) r ⌝ }
+{
+    word_of(
+        p.variables[i],
+        p.attributes[i],
+        p.operators[i],
+        p.forms[i],
+        p.variables2[i],
+        p.attributes2[i],
+        p.constants[i],
+    )
+}
+
+// The weight of v, if the test passes.
+fn weight_if(test: bool, v: usize) -> u64
+    requires { ⌜ v < 64 ⌝ }
+    ensures { λ r. ⌜ r ≡ oneIf test * 2 ^ v ⌝ }
+{
+    if test {
+        return numbers::weight(v);
+    }
+    0
+}
+
+// Whether a variable stands in one of the masks of another: 0 before, 1 after, 2 marks.
+fn is_standing(which: usize, own: u8, set: u8, same: bool, group: bool) -> bool
+    ensures { λ r. ⌜ r ≡ standing which own set same group ⌝ }
+{
+    if which == 0 {
+        return set < own;
+    }
+    if which == 1 {
+        if own < set {
+            return true;
+        }
+        if same {
+            return !group;
+        }
+        return false;
+    }
+    if own <= 1 {
+        return true;
+    }
+    set == own
+}
+
+// A mask of v.
+fn variable_mask(p: Pattern, which: usize, v: usize) -> u64
+    requires { ⌜ (p .n ≤ mostVariables) × (v < mostVariables) ⌝ }
+    ensures { λ r. ⌜ r ≡ variableMask p which v ⌝ }
+{
+    let n = p.n;
+    let own = p.sets[v];
+    let group = p.groups[v];
+    let mut bits: u64 = 0;
+    let mut u = 0;
+    while u < n {
+        bits = bits + weight_if(is_standing(which, own, p.sets[u], u == v, group), u);
+        u += 1;
+    }
+    bits
+}
+
+// Whether a condition joins v to another variable.
+fn is_join(v: usize, form: u8, variable: u8, variable2: u8) -> bool
+    ensures { λ r. ⌜ r ≡ joins v form variable variable2 ⌝ }
+{
+    if form == 0 {
+        return false;
+    }
+    let first = variable as usize;
+    let second = variable2 as usize;
+    if first == v {
+        return second != v;
+    }
+    second == v
+}
+
+// The conditions that join v.
+fn join_mask(p: Pattern, v: usize) -> u64
+    requires { ⌜ p .c ≤ mostConditions ⌝ }
+    ensures { λ r. ⌜ r ≡ joinMask p v ⌝ }
+{
+    let c = p.c;
+    let mut bits: u64 = 0;
+    let mut i = 0;
+    while i < c {
+        bits = bits + weight_if(is_join(v, p.forms[i], p.variables[i], p.variables2[i]), i);
+        i += 1;
+    }
+    bits
+}
+
+// What stands at a place of the plan.
+fn place(p: Pattern, at: usize) -> u64
+    requires { ⌜ InOrder p × (at < planRoom) ⌝ }
+    ensures { λ r. ⌜ Placed p at r ⌝ }
+{
+    if at < FIRST_MASK {
+        if at < p.c {
+            return word_at(p, at);
+        }
+        return 0;
+    }
+    if at < FIRST_JOINS {
+        let beyond = at - FIRST_MASK;
+        return variable_mask(p, beyond / MOST_VARIABLES, beyond % MOST_VARIABLES);
+    }
+    join_mask(p, at - FIRST_JOINS)
+}
+
+// What a pass prepares once a call.
+pub fn plan_of(p: Pattern) -> [u64; 80]
+    requires { ⌜ InOrder p ⌝ }
+    ensures { λ r. ⌜ IsPlan p r ⌝ }
+{
+    let mut plan = [0u64; 80];
+    let mut at = 0;
+    while at < PLAN_ROOM {
+        plan[at] = place(p, at);
+        at += 1;
+    }
+    plan
+}
+
+// ## Once a record
+
+// Whether a condition looks at one event alone.
+fn is_own(k: Condition) -> bool
+    ensures { λ r. ⌜ r ≡ eqb (k .form) 0 || eqb (k .variable) (k .variable2) ⌝ }
+{
+    if k.form == 0 {
+        return true;
+    }
+    k.variable == k.variable2
+}
+
+// The mask without the variable of a condition that looks at one event alone and fails of the record.
+fn settle(can: u64, word: u64, r: Record) -> u64
+    requires { ⌜ conditionOf word .operator ≤ lastOperator ⌝ }
+    ensures { λ s. ⌜ s ≡ settled can (conditionOf word) r ⌝ }
+{
+    let k = patterns::unpack_condition(word);
+    if !is_own(k) {
+        return can;
+    }
+    if patterns::condition_holds(k, r, r) {
+        return can;
+    }
+    numbers::without_bit(can, k.variable as usize)
+}
+
+// The variables whose own conditions hold of record i, by the plan of a pattern of n variables and c conditions.
+pub fn can_fire(plan: &[u64; 80], n: usize, c: usize, block: &[u8], i: usize) -> u64
+    requires { ⌜ Sound (now plan) × (n ≤ mostVariables) × (c ≤ mostConditions) × (recordBytes * i + recordBytes ≤ length (now block)) ⌝ }
+    ensures { λ r. ⌜ (r ≡ canBy (now (plan .entry)) n c (now (block .entry)) i) × (r < 2 ^ n) ⌝ }
+{
+    let r = records::unpack(block, i);
+    let mut can = numbers::weight(n) - 1;
+    let mut k = 0;
+    while k < c {
+        if can == 0 {
+            return 0;
+        }
+        can = settle(can, plan[k], r);
+        k += 1;
+    }
+    can
+}
+
+// ## Once a reading
+
+// Whether v leaves the state: it loops, or it opens.
+pub fn leaves(plan: &[u64; 80], state: u64, v: usize) -> bool
+    requires { ⌜ (length (now plan) ≡ planRoom) × (v < mostVariables) ⌝ }
+    ensures { λ r. ⌜ r ≡ leavesBy (now (plan .entry)) state v ⌝ }
+{
+    if numbers::bit_of(state, v) {
+        return numbers::is_disjoint(state, plan[FIRST_AFTER + v]);
+    }
+    numbers::is_within(plan[FIRST_MASK + v], state)
+}
+
+// Whether record i is later than everything bound, where the order mark asks it.
+pub fn is_later(plan: &[u64; 80], block: &[u8], i: usize, v: usize, slot: &[u8]) -> bool
+    requires { ⌜ Fit (now plan) (now block) i (now slot) × (v < mostVariables) ⌝ }
+    ensures { λ r. ⌜ r ≡ laterBy (now (plan .entry)) (now (block .entry)) i v (heldIn (now (slot .entry))) ⌝ }
+{
+    if !numbers::is_disjoint(slots::state_of(slot), plan[FIRST_MARKS + v]) {
+        return true;
+    }
+    let count = slots::count_of(slot);
+    if count == 0 {
+        return true;
+    }
+    let latest = slots::binding_record(slot, count - 1);
+    records::time_at(block, latest) < records::time_at(block, i)
+}
+
+// The new event's value in a condition that joins v, raised.
+fn new_value(k: Condition, v: usize, r: Record) -> u64
+    ensures { λ x. ⌜ x ≡ raise (value (sideOf v k) r) ⌝ }
+{
+    if k.variable as usize == v {
+        return patterns::raised_value(k.attribute, r);
+    }
+    patterns::raised_value(k.attribute2, r)
+}
+
+// How many bindings a condition that joins v is tested with: none where the other variable is not bound.
+fn tested(k: Condition, v: usize, state: u64, count: usize) -> usize
+    requires { ⌜ (k .variable < 16) × (k .variable2 < 16) ⌝ }
+    ensures { λ r. ⌜ r ≡ testedBy state count v k ⌝ }
+{
+    if k.variable as usize == v {
+        if numbers::bit_of(state, k.variable2 as usize) {
+            return count;
+        }
+        return 0;
+    }
+    if numbers::bit_of(state, k.variable as usize) {
+        return count;
+    }
+    0
+}
+
+// Whether a condition that joins v holds with binding j, x being the new event's value, raised.
+fn pair_holds(block: &[u8], slot: &[u8], j: usize, k: Condition, v: usize, x: u64) -> bool
+    requires { ⌜ (k .operator < 5) × (4 + 2 * j + 2 ≤ length (now slot)) × (recordBytes * (number (now slot) (4 + 2 * j) 2 % 2 ^ 12) + recordBytes ≤ length (now block)) ⌝ }
+    ensures { λ r. ⌜ r ≡ pairMeets (now (block .entry)) x v k (bindingOf (number (now (slot .entry)) (4 + 2 * j) 2)) ⌝ }
+{
+    let u = slots::binding_variable(slot, j);
+    let at = slots::binding_record(slot, j);
+    if k.variable as usize == v {
+        if u != k.variable2 as usize {
+            return true;
+        }
+        return patterns::compare(
+            k.operator,
+            x,
+            patterns::raised_value(k.attribute2, records::unpack(block, at)),
+        );
+    }
+    if u != k.variable as usize {
+        return true;
+    }
+    patterns::compare(
+        k.operator,
+        patterns::raised_value(k.attribute, records::unpack(block, at)),
+        x,
+    )
+}
+
+// Whether every condition that joins v holds of record i with each earlier binding of the other variable. Every
+// combination is tested, and the first that fails settles it.
+pub fn joins_hold(plan: &[u64; 80], block: &[u8], i: usize, v: usize, slot: &[u8]) -> bool
+    requires { ⌜ Fit (now plan) (now block) i (now slot) × (v < mostVariables) ⌝ }
+    ensures { λ r. ⌜ r ≡ joinsBy (now (plan .entry)) (now (block .entry)) i v (bindingsIn (now (slot .entry)) (countIn (now (slot .entry)))) ⌝ }
+{
+    let mut rest = plan[FIRST_JOINS + v];
+    if rest == 0 {
+        return true;
+    }
+    let state = slots::state_of(slot);
+    let count = slots::count_of(slot);
+    let r = records::unpack(block, i);
+    let mut hold = true;
+    'conditions: while rest != 0 {
+        let at = numbers::lowest_bit(rest);
+        let k = patterns::unpack_condition(plan[at]);
+        let x = new_value(k, v, r);
+        let end = tested(k, v, state, count);
+        let mut j: usize = 0;
+        while j < end {
+            if !pair_holds(block, slot, j, k, v, x) {
+                hold = false;
+                break 'conditions;
+            }
+            j += 1;
+        }
+        rest = rest - numbers::weight(at);
+    }
+    hold
+}
+
+// Whether the step on v fires for the slot's reading at record i, `can` being the variables whose own conditions hold.
+pub fn fires(plan: &[u64; 80], block: &[u8], i: usize, can: u64, v: usize, slot: &[u8]) -> bool
+    requires { ⌜ Fit (now plan) (now block) i (now slot) × (v < mostVariables) ⌝ }
+    ensures { λ r. ⌜ r ≡ firesBy (now (plan .entry)) (now (block .entry)) i can v (heldIn (now (slot .entry))) ⌝ }
+{
+    if !numbers::bit_of(can, v) {
+        return false;
+    }
+    if !leaves(plan, slots::state_of(slot), v) {
+        return false;
+    }
+    if !is_later(plan, block, i, v, slot) {
+        return false;
+    }
+    joins_hold(plan, block, i, v, slot)
+}
