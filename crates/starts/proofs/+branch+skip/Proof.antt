@@ -1,0 +1,245 @@
+-- `starts::skip` and `starts::branch` meet their contracts, which call each other: records left and variables left fall.
+-- Assumes nothing.
+use borrow.Author.Needs.{needs}
+use native.Mathlib.Omega.{arith}
+use Prim.Native.Nat.{ℕ, _<_, _+_, _-_, _*_}
+use mathlib.Core.Path.{_∙_}
+use Rattle.starts.specs.Sinks.{sinkOf}
+use Rattle.starts.proofs.Turns.{rest-less}
+use Rattle.starts.proofs.Skips.{reads-later, branch-done, lowest-known, grown-ready, branch-takes, rest-firing, skip-closes, skip-notes, next-firing, skip-branches}
+use borrow.Fn.Kinds.{In}
+use borrow.Fn.PlainCycle.{Measures, is, falls, and}
+use Rattle.numbers.proofs.lowest_bit.Reads as lowest-bit-reads
+use Rattle.numbers.proofs.without_bit.Reads as without-bit-reads
+use Rattle.slots.proofs.count_of.Reads as count-of-reads
+use Rattle.slots.proofs.grown.Reads as grown-reads
+use Rattle.starts.proofs.branch.Reads as branch
+use Rattle.starts.proofs.branch.Kinds as branch-kinds
+use Rattle.starts.proofs.+branch+skip.Lts-branch as branch-lts
+use Rattle.starts.proofs.skip.Reads as skip
+use Rattle.starts.proofs.skip.Kinds as skip-kinds
+use Rattle.starts.proofs.+branch+skip.Lts-skip as skip-lts
+use Rattle.starts.proofs.close.Reads as close-reads
+use Rattle.starts.proofs.next_fire.Reads as next-fire-reads
+use Rattle.starts.proofs.note_over.Reads as note-over-reads
+use Rattle.starts.proofs.+branch+skip.{statement}
+use Rattle.starts.proofs.+branch+skip.Tie.{close}
+
+-- a mask of variables is below 4,096
+abbrev μ-branch : Measures 3 branch-kinds.ps ℕ
+μ-branch κs a = (a .1 .1 .1 .1 .1 .0 .until - a .1 .1 .1 .0) * 8192 + a .1 .1 .1 .1 .0
+
+abbrev μ-skip : Measures 3 skip-kinds.ps ℕ
+μ-skip κs a = (a .1 .1 .1 .1 .0 .until - a .1 .1 .1 .0) * 8192 + 4096
+
+abbrev branch-at : ℕ → In 3 branch-kinds.ps
+branch-at t = and 3 branch-kinds.ps (is 3 branch-kinds.ps μ-branch t) branch.Pre
+
+abbrev branch-below : ℕ → In 3 branch-kinds.ps
+branch-below t = and 3 branch-kinds.ps (falls 3 branch-kinds.ps _<_ μ-branch t) branch.Pre
+
+abbrev skip-at : ℕ → In 3 skip-kinds.ps
+skip-at t = and 3 skip-kinds.ps (is 3 skip-kinds.ps μ-skip t) skip.Pre
+
+abbrev skip-below : ℕ → In 3 skip-kinds.ps
+skip-below t = and 3 skip-kinds.ps (falls 3 skip-kinds.ps _<_ μ-skip t) skip.Pre
+
+-- the callees' readings, at what is below t
+abbrev of-branch : ℕ → branch-lts.Claims
+of-branch t = (
+  lowest-bit-reads.Asked,
+  lowest-bit-reads.Learnt,
+  grown-reads.Asked,
+  grown-reads.Learnt,
+  skip-below t,
+  skip.Post,
+  without-bit-reads.Asked,
+  without-bit-reads.Learnt,
+  branch-below t,
+  branch.Post,
+)
+
+abbrev of-skip : ℕ → skip-lts.Claims
+of-skip t = (
+  next-fire-reads.Asked,
+  next-fire-reads.Learnt,
+  close-reads.Asked,
+  close-reads.Learnt,
+  count-of-reads.Asked,
+  count-of-reads.Learnt,
+  note-over-reads.Asked,
+  note-over-reads.Learnt,
+  branch-below t,
+  branch.Post,
+)
+
+branch-returns : (t : ℕ) → branch-lts.Need-returns (of-branch t) (branch-at t) branch.Post
+branch-returns t c =
+    let a = c .before .before .before .args in
+    branch-done (a .plan .now) (a .block .now) (a .s) (a .slot .bytes) (a .j) (a .firing) (sinkOf (a .result .now) (a .counts)) (c .if1 .taken)
+
+branch-lowest-bit-requires : (t : ℕ) → branch-lts.Need-lowest-bit-requires (of-branch t) (branch-at t) branch.Post
+branch-lowest-bit-requires t c κs = search needs
+
+branch-grown-requires : (t : ℕ) → branch-lts.Need-grown-requires (of-branch t) (branch-at t) branch.Post
+branch-grown-requires t c κs =
+    let st = c .before .before .before .before .before in
+    let a = st .args in
+    let at = st .pre .1 in
+    let low = c .before .lowest-bit in
+    let known = lowest-known (a .plan .now) (a .block .now) (a .s) (a .slot .bytes) (a .j) (a .firing) (low .result) at (low .ensures) in
+    let few = at .ready .usable .variables in
+    let end = at .before in
+    let block = at .ready .block in
+    let records = at .ready .usable .records in
+    (at .ready .reads .size, at .room, omega arith, omega arith)
+
+branch-add-skip : (t : ℕ) → branch-lts.Need-add-skip (of-branch t) (branch-at t) branch.Post
+branch-add-skip t c =
+    let at = c .before .before .before .before .before .before .pre .1 in
+    let end = at .before in
+    let block = at .ready .block in
+    let records = at .ready .usable .records in
+    omega arith
+
+branch-skip-requires : (t : ℕ) → branch-lts.Need-skip-requires (of-branch t) (branch-at t) branch.Post
+branch-skip-requires t c κs =
+    let st = c .before .before .before .before .before .before .before in
+    let a = st .args in
+    let at = st .pre .1 in
+    let low = c .before .before .before .lowest-bit in
+    let more = c .before .grown in
+    let end = at .before in
+    let same = st .pre .0 in (
+      omega arith,
+      grown-ready (a .plan .now) (a .block .now) (a .s) (a .slot .bytes) (a .j) (a .firing) (low .result) at (low .ensures) (more .result) (more .ensures .0) (more .ensures .1) (more .ensures .2),
+    )
+
+branch-without-bit-requires : (t : ℕ) → branch-lts.Need-without-bit-requires (of-branch t) (branch-at t) branch.Post
+branch-without-bit-requires t c κs = c .before .before .before .before .before .before .lowest-bit .ensures .small
+
+branch-branch-requires : (t : ℕ) → branch-lts.Need-branch-requires (of-branch t) (branch-at t) branch.Post
+branch-branch-requires t c κs =
+    let st = c .before .before .before .before .before .before .before .before .before .before .before .before in
+    let a = st .args in
+    let at = st .pre .1 in
+    let low = c .before .before .before .before .before .before .before .before .lowest-bit in
+    let rest = c .before .without-bit in
+    let some = c .before .before .before .before .before .before .before .before .before .if1 .left in
+    let less = rest-less (a .firing) (low .result) 64 (omega (arith, some)) (low .ensures) in
+    let is = rest .ensures in
+    let same = st .pre .0 in (
+      omega arith,
+      rest-firing (a .plan .now) (a .block .now) (a .s) (a .slot .bytes) (a .j) (a .firing) (low .result) at (low .ensures) (rest .result) (rest .ensures),
+    )
+
+branch-same-length : (t : ℕ) → branch-lts.Need-same-length (of-branch t) (branch-at t) branch.Post
+branch-same-length t c = search needs
+
+branch-returns-2 : (t : ℕ) → branch-lts.Need-returns-2 (of-branch t) (branch-at t) branch.Post
+branch-returns-2 t c =
+    let st = c .before .before .before .before .before .before .before .before .before .before .before .before .before .before .before in
+    let a = st .args in
+    let low = c .before .before .before .before .before .before .before .before .before .before .before .lowest-bit in
+    let more = c .before .before .before .before .before .before .before .before .before .grown in
+    let call = c .before .before .before .before .before .before .before .skip in
+    let rest = c .before .before .before .before .without-bit in
+    let last = c .before .before .branch in
+    branch-takes (a .plan .now) (a .block .now) (a .s) (a .slot .bytes) (a .j) (a .firing) (low .result) (st .pre .1) (low .ensures)
+    (more .result) (more .ensures .0) (rest .result) (sinkOf (a .result .now) (a .counts)) (sinkOf (call .last .1 .1 .1 .1 .1 .0) (call .result)) (sinkOf (last .last .1 .1 .1 .1 .1 .1 .0) (last .result))
+    (rest .ensures) (call .ensures) (last .ensures)
+
+skip-next-fire-requires : (t : ℕ) → skip-lts.Need-next-fire-requires (of-skip t) (skip-at t) skip.Post
+skip-next-fire-requires t c κs = c .before .before .before .before .before .pre .1
+
+skip-close-requires : (t : ℕ) → skip-lts.Need-close-requires (of-skip t) (skip-at t) skip.Post
+skip-close-requires t c κs =
+    let st = c .before .before .before .before .before .before .before .before .before .before .before .before .before in
+    let a = st .args in
+    let ready = st .pre .1 in
+    (reads-later (a .s .n) (a .j) (a .s .until) (a .t3 .bytes) (ready .within) (ready .reads), ready .usable .variables, ready .mark)
+
+skip-same-length : (t : ℕ) → skip-lts.Need-same-length (of-skip t) (skip-at t) skip.Post
+skip-same-length t c = search needs
+
+skip-returns : (t : ℕ) → skip-lts.Need-returns (of-skip t) (skip-at t) skip.Post
+skip-returns t c =
+    let st = c .before .before .before .before .before .before .before .before .before .before .before .before .before .before .before .before in
+    let a = st .args in
+    let next = c .before .before .before .before .before .before .before .before .before .before .next-fire in
+    let call = c .before .before .close in
+    skip-closes (a .plan .now) (a .block .now) (a .s) (a .t3 .bytes) (a .j) (st .pre .1) (next .result) (next .ensures)
+    (c .before .before .before .before .before .before .before .if1 .taken) (sinkOf (a .result .now) (a .counts)) (sinkOf (call .last .0) (call .result)) (call .ensures)
+
+skip-count-of-requires : (t : ℕ) → skip-lts.Need-count-of-requires (of-skip t) (skip-at t) skip.Post
+skip-count-of-requires t c κs =
+    let size = c .before .before .before .before .before .before .before .before .before .before .before .before .pre .1 .reads .size in
+    omega arith
+
+skip-note-over-requires : (t : ℕ) → skip-lts.Need-note-over-requires (of-skip t) (skip-at t) skip.Post
+skip-note-over-requires t c κs = search needs
+
+skip-returns-2 : (t : ℕ) → skip-lts.Need-returns-2 (of-skip t) (skip-at t) skip.Post
+skip-returns-2 t c =
+    let st = c .before .before .before .before .before .before .before .before .before .before .before .before .before .before .before in
+    let a = st .args in
+    let next = c .before .before .before .before .before .before .before .before .before .next-fire in
+    let count = c .before .before .count-of in
+    let note = c .note-over in
+    skip-notes (a .plan .now) (a .block .now) (a .s) (a .t3 .bytes) (a .j) (st .pre .1) (next .result) (next .ensures)
+    (c .before .before .before .before .before .before .if1 .left) (omega (arith, count .ensures, c .before .if2 .taken)) (a .result .now) (a .counts) (note .result) (note .ensures .0) (note .ensures .1) (note .ensures .2)
+
+skip-branch-requires : (t : ℕ) → skip-lts.Need-branch-requires (of-skip t) (skip-at t) skip.Post
+skip-branch-requires t c κs =
+    let st = c .before .before .before .before .before .before .before .before .before .before .before .before .before .before .before in
+    let a = st .args in
+    let next = c .before .before .before .before .before .before .before .before .before .next-fire in
+    let count = c .before .before .count-of .ensures in
+    let full = c .before .if2 .left in
+    let at = next-firing (a .plan .now) (a .block .now) (a .s) (a .t3 .bytes) (a .j) (st .pre .1) (next .result) (next .ensures)
+    (c .before .before .before .before .before .before .if1 .left) (λ e. full (count ∙ e)) in
+    let small = at .variables in
+    let from = next .ensures .from in
+    let same = st .pre .0 in
+    (omega arith, at)
+
+skip-same-length-2 : (t : ℕ) → skip-lts.Need-same-length-2 (of-skip t) (skip-at t) skip.Post
+skip-same-length-2 t c = search needs
+
+skip-returns-3 : (t : ℕ) → skip-lts.Need-returns-3 (of-skip t) (skip-at t) skip.Post
+skip-returns-3 t c =
+    let st = c .before .before .before .before .before .before .before .before .before .before .before .before .before .before .before .before .before .before in
+    let a = st .args in
+    let next = c .before .before .before .before .before .before .before .before .before .before .before .before .next-fire in
+    let count = c .before .before .before .before .before .count-of .ensures in
+    let full = c .before .before .before .before .if2 .left in
+    let call = c .before .before .branch in
+    skip-branches (a .plan .now) (a .block .now) (a .s) (a .t3 .bytes) (a .j) (st .pre .1) (next .result) (next .ensures)
+    (c .before .before .before .before .before .before .before .before .before .if1 .left) (λ e. full (count ∙ e)) (sinkOf (a .result .now) (a .counts)) (sinkOf (call .last .1 .1 .1 .1 .1 .1 .0) (call .result)) (call .ensures)
+
+pub +branch+skip-spec : {M : Type 1} → statement M
++branch+skip-spec =
+    close μ-branch μ-skip
+    (λ t.
+    branch-lts.spec (of-branch t) (branch-at t) branch.Post
+    (branch-returns t)
+    (branch-lowest-bit-requires t)
+    (branch-grown-requires t)
+    (branch-add-skip t)
+    (branch-skip-requires t)
+    (branch-without-bit-requires t)
+    (branch-branch-requires t)
+    (branch-same-length t)
+    (branch-returns-2 t))
+    (λ t.
+    skip-lts.spec (of-skip t) (skip-at t) skip.Post
+    (skip-next-fire-requires t)
+    (skip-close-requires t)
+    (skip-same-length t)
+    (skip-returns t)
+    (skip-count-of-requires t)
+    (skip-note-over-requires t)
+    (skip-returns-2 t)
+    (skip-branch-requires t)
+    (skip-same-length-2 t)
+    (skip-returns-3 t))

@@ -1,0 +1,7 @@
+pub mod Sinks
+pub mod Readings
+pub mod Windows
+pub mod Turns
+pub mod Skips
+pub mod Starts
+pub mod Ends

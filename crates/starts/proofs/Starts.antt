@@ -1,0 +1,100 @@
+-- One start after another: what each way out of a start comes to, and what is left to be done. Assumes nothing.
+use mathlib.Core.Path.{_≡_, sym, ap, subst, _∙_}
+use mathlib.Core.List.{List, []}
+use Prim.Native.Nat.{ℕ, suc, _+_, _-_, _≤_, _<_, _^_}
+use native.Mathlib.Numerals.{add-one}
+use native.Mathlib.Omega.{arith}
+use Rattle.numbers.specs.Bits.{mask}
+use Rattle.records.specs.Records.{recordAt, recordCount, recordsOf, eventKind}
+use Rattle.records.proofs.Listed.{length-records}
+use Rattle.patterns.specs.declared.Pattern.{Pattern}
+use Rattle.rule.specs.Rule.{Block, Reading, fires}
+use Rattle.rule.specs.Starts.{until, markOf, withBinding, skipUntil, startFound, foundFrom, foundAll}
+use Rattle.rule.proofs.Found.{start-event, found-end, found-all, found-first}
+use Rattle.rule.proofs.Found.{start-gap as found-gap}
+use Rattle.slots.specs.Slots.{countIn, heldIn}
+use Rattle.starts.specs.declared.Start.{Start}
+use Rattle.starts.specs.Sinks.{Sink, emits}
+use Rattle.starts.specs.Skips.{firingBy, Reads, Usable, Firing, Of, Branched, branchOver, StartIs, Started}
+use Rattle.starts.proofs.Sinks.{emits-append}
+use Rattle.starts.proofs.Readings.{firing-is, firing-bound}
+use Rattle.starts.proofs.Windows.{is-event, is-gap}
+use Rattle.starts.proofs.Turns.{turn-none, mask-turn, low-bits}
+use Rattle.starts.proofs.Skips.{few-bits}
+
+module _ (plan bytes : List ℕ) (n c duration i : ℕ) (usable : Usable plan bytes n c) (inside : i < recordCount bytes) where
+  pub started-gap : (recordAt bytes i .kind ≡ eventKind → ⊥) → (before : Sink) → Started plan bytes n c duration i before before
+  unfolding emits
+  started-gap e before =
+      record { found = λ p o d. ap (emits before) (sym (found-gap p (recordsOf bytes) i (is-gap bytes i inside e))) }
+
+  module _ (event : recordAt bytes i .kind ≡ eventKind) (slot : List ℕ) (reads : Reads n i slot) (none : heldIn slot .bindings ≡ []) (firing : ℕ) (is : firing ≡ firingBy plan bytes n c i (heldIn slot)) where
+    -- the readings that begin at record i, by the mask of the variables that fire there
+    start-over : (p : Pattern) → Of p plan bytes n c → startFound p (recordsOf bytes) i ≡ branchOver p (recordsOf bytes) (markOf p (recordsOf bytes) i) (until p (recordsOf bytes) i) i [] firing
+    start-over p o =
+        start-event p (recordsOf bytes) i (is-event bytes i inside event)
+        ∙ mask-turn (λ v. fires p (recordsOf bytes) [] v i)
+        (λ w. skipUntil p (recordsOf bytes) (markOf p (recordsOf bytes) i) (until p (recordsOf bytes) i) (suc i) (withBinding [] w i))
+        (p .n) firing
+        (is
+        ∙ firing-is n i slot reads (usable .variables) p plan bytes c o i (omega arith) inside
+        ∙ ap (λ (r : Reading). mask (λ v. fires p (recordsOf bytes) r v i) (p .n)) none)
+
+    pub started-none : firing ≡ 0 → (before : Sink) → Started plan bytes n c duration i before before
+    unfolding emits
+    started-none e before =
+        record {
+          found = λ p o d.
+              ap (emits before)
+              (sym (start-over p o
+              ∙ turn-none (λ w. skipUntil p (recordsOf bytes) (markOf p (recordsOf bytes) i) (until p (recordsOf bytes) i) (suc i) (withBinding [] w i)) (p .n) firing e));
+        }
+
+    module _ (s : Start) (start : StartIs bytes n c duration i s) where
+      pub start-firing : countIn slot ≡ 0 → Firing plan bytes s slot i firing
+      start-firing count =
+          let after = start .after in
+          let small : firing < 2 ^ n = rw is (firing-bound plan bytes n c i (heldIn slot)) in
+          record {
+            ready =
+                record {
+                  usable = rw (start .variables, start .conditions) usable;
+                  mark = start .small;
+                  block = start .block;
+                  within = omega arith;
+                  reads = rw (start .variables) reads;
+                };
+            before = after;
+            room = omega arith;
+            variables = few-bits n firing (usable .variables) small;
+            known = λ v t. let l = low-bits firing n v small t in omega (arith, start .variables);
+          }
+
+      pub started-branch : (before after : Sink) → Branched plan bytes s slot i firing before after → Started plan bytes n c duration i before after
+      started-branch before after branched =
+          record {
+            found = λ p o d.
+                branched .found p (subst (λ (k : ℕ). Of p plan bytes k (s .c)) (sym (start .variables)) (subst (λ (k : ℕ). Of p plan bytes n k) (sym (start .conditions)) o))
+                ∙ (λ k. emits before (branchOver p (recordsOf bytes) (start .mark p d k) (start .closes p d k) i (none k) firing))
+                ∙ ap (emits before) (sym (start-over p o));
+          }
+
+-- ## What is left to be done
+
+module _ (p : Pattern) (B : Block) (m i : ℕ) (s total : Sink) (left : total ≡ emits s (foundFrom p B i (m - i))) where
+  pub starts-more : i < m → (s₁ : Sink) → s₁ ≡ emits s (startFound p B i) → total ≡ emits s₁ (foundFrom p B (i + 1) (m - (i + 1)))
+  starts-more l s₁ e =
+      left
+      ∙ ap (emits s) (found-first p B i m l)
+      ∙ emits-append s (startFound p B i) (foundFrom p B (suc i) (m - suc i))
+      ∙ ap (λ (x : Sink). emits x (foundFrom p B (suc i) (m - suc i))) (sym e)
+      ∙ ap (λ (k : ℕ). emits s₁ (foundFrom p B k (m - k))) (sym (add-one i))
+
+  pub starts-done : m ≤ i → s ≡ total
+  unfolding emits
+  starts-done l = sym (left ∙ ap (emits s) (found-end p B i m l))
+
+pub starts-begin : (p : Pattern) (bytes : List ℕ) (s : Sink) → emits s (foundAll p (recordsOf bytes)) ≡ emits s (foundFrom p (recordsOf bytes) 0 (recordCount bytes - 0))
+starts-begin p bytes s =
+    ap (emits s)
+    (sym (found-all p (recordsOf bytes)) ∙ ap (λ (k : ℕ). foundFrom p (recordsOf bytes) 0 (k - 0)) (length-records bytes))

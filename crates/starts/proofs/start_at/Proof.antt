@@ -1,0 +1,103 @@
+-- `starts::start_at` meets its contract: the first gap, the first record past the window, or the end. Assumes nothing.
+use native.Mathlib.Omega.{arith}
+use mathlib.Core.Path.{_≡_, refl, sym, ap, subst, _∙_}
+use Prim.Native.Nat.{ℕ, _+_, _-_, _≤_, _<_}
+use borrow.Author.Tests.{ltb-false}
+use Rattle.records.specs.declared.Record.{Record}
+use Rattle.records.specs.Records.{recordAt, recordCount}
+use Rattle.starts.specs.Skips.{OpenTo}
+use Rattle.starts.proofs.Windows.{open-none, open-more, start-gap, start-past, start-end}
+use borrow.Author.Needs.{needs}
+use Rattle.starts.proofs.start_at.Statement.{statement}
+use Rattle.starts.proofs.start_at.Tie as tie
+
+abbrev Inv-loop : tie.InvT-loop
+Inv-loop block n c duration i first count k₀ k = (i < k) × (k ≤ count) × (count ≡ recordCount block) × (first ≡ recordAt block i .time) × OpenTo block duration i k
+
+abbrev μ-loop : tie.MeasureT-loop
+μ-loop block n c duration i first count k₀ k = count - k
+
+time-at-requires : tie.Need-time-at-requires Inv-loop μ-loop
+time-at-requires c κs = omega arith
+
+add-k : tie.Need-add-k Inv-loop μ-loop
+add-k c = search needs
+
+loop-holds : tie.Need-loop-holds Inv-loop μ-loop
+loop-holds c =
+    let a = c .before .before .args in
+    (search needs, omega arith, refl, c .time-at .ensures, open-none (a .block .now) (a .duration) (a .i))
+
+unpack-requires : tie.Need-unpack-requires Inv-loop μ-loop
+unpack-requires c κs = omega arith
+
+returns : tie.Need-returns Inv-loop μ-loop
+returns c =
+    let a = c .before .before .before .before .before .before .before .args in
+    let h = c .before .before .before .before .loop in
+    let r = c .before .before .unpack in
+    let kind = ap (λ (x : Record). x .kind) (r .ensures) in
+    start-gap (a .block .now) (a .duration) (a .i) (h .k) (h .inv .0) (omega arith) (h .inv .4) (a .n) (a .c) (omega arith) (λ e. c .if1 .taken (kind ∙ e))
+
+is-past-requires : tie.Need-is-past-requires Inv-loop μ-loop
+is-past-requires c κs = search needs
+
+returns-2 : tie.Need-returns-2 Inv-loop μ-loop
+returns-2 c =
+    let a = c .before .before .before .before .before .before .before .before .before .args in
+    let h = c .before .before .before .before .before .before .loop in
+    let r = c .before .before .before .before .unpack in
+    let kind = ap (λ (x : Record). x .kind) (r .ensures) in
+    let time = ap (λ (x : Record). x .time) (r .ensures) in
+    let past = sym (c .before .is-past .ensures) ∙ c .if2 .taken in
+    start-past (a .block .now) (a .duration) (a .i) (h .k) (h .inv .0) (omega arith) (h .inv .4) (a .n) (a .c) (omega arith) (sym kind ∙ c .before .before .if1 .left)
+    (rw (sym (h .inv .3), sym time) past)
+
+add-k-2 : tie.Need-add-k-2 Inv-loop μ-loop
+add-k-2 c = search needs
+
+loop-less : tie.Need-loop-less Inv-loop μ-loop
+loop-less c = search needs
+
+loop-again : tie.Need-loop-again Inv-loop μ-loop
+loop-again c =
+    let a = c .before .before .before .before .before .before .before .before .before .args in
+    let h = c .before .before .before .before .before .before .loop in
+    let r = c .before .before .before .before .unpack in
+    let kind = ap (λ (x : Record). x .kind) (r .ensures) in
+    let time = ap (λ (x : Record). x .time) (r .ensures) in
+    let first = h .inv .3 in
+    let near : recordAt (a .block .now) (h .k) .time ≤ recordAt (a .block .now) (a .i) .time + a .duration =
+    ltb-false (recordAt (a .block .now) (a .i) .time + a .duration) (recordAt (a .block .now) (h .k) .time) (rw (sym (h .inv .3), sym time) (sym (c .before .is-past .ensures) ∙ c .if2 .left)) in (
+      search needs,
+      search needs,
+      refl,
+      h .inv .3,
+      open-more (a .block .now) (a .duration) (a .i) (h .k) (h .inv .0) (omega arith) (h .inv .4) (omega arith) (sym kind ∙ c .before .before .if1 .left) near,
+    )
+
+returns-3 : tie.Need-returns-3 Inv-loop μ-loop
+returns-3 c =
+    let a = c .before .before .before .before .args in
+    let h = c .before .loop in
+    let e : h .k ≡ recordCount (a .block .now) = omega (arith, c .loop-test .left) in
+    subst (λ (k : ℕ). Rattle.starts.specs.Skips.StartIs (a .block .now) (a .n) (a .c) (a .duration) (a .i) (record { n = a .n; c = a .c; until = k; mark = 2 })) e
+    (start-end (a .block .now) (a .duration) (a .i) (h .k) (h .inv .0) (omega arith) (h .inv .4) (a .n) (a .c) (omega arith))
+
+pub start-at-spec : {M : Type 1} → statement M
+start-at-spec =
+    tie.close
+    (tie.spec
+    Inv-loop
+    μ-loop
+    time-at-requires
+    add-k
+    loop-holds
+    unpack-requires
+    returns
+    is-past-requires
+    returns-2
+    add-k-2
+    loop-less
+    loop-again
+    returns-3)

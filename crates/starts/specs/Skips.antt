@@ -1,0 +1,128 @@
+-- What skip and branch ask for and what they do, by the plan and the slot that they are handed. No promise of a public call
+-- names this file.
+use mathlib.Core.Path.{_≡_}
+use mathlib.Core.Bool.{true}
+use mathlib.Core.List.{List, List·Memᴰ}
+use Prim.Native.Nat.{ℕ, suc, _+_, _≤_, _<_, _^_}
+use lib.ListN.{length}
+use Rattle.numbers.specs.Bits.{bit, mask}
+use Rattle.records.specs.Records.{recordAt, recordCount, recordsOf, eventKind}
+use Rattle.records.specs.Blocks.{mostRecords}
+use Rattle.patterns.specs.declared.Pattern.{Pattern}
+use Rattle.patterns.specs.Patterns.{mostVariables, mostConditions}
+use Rattle.patterns.specs.Checked.{InOrder}
+use Rattle.rule.specs.Rule.{Block, Binding, Reading, TimesNeverFall, lastOf}
+use Rattle.rule.specs.Promises.{mostBindings}
+use Rattle.rule.specs.Starts.{Found, until, markOf, withBinding, inTurn, close, skipUntil, startFound, foundAll}
+use Rattle.slots.specs.Slots.{Held, slotBytes, countIn, heldIn, holding}
+use Rattle.firing.specs.Plan.{IsPlan, Sound}
+use Rattle.firing.specs.Firing.{canBy, firesBy}
+use Rattle.starts.specs.declared.Start.{Start}
+use Rattle.starts.specs.declared.Fire.{Fire}
+use Rattle.starts.specs.Sinks.{Sink, emits}
+
+-- ## What is handed on
+
+-- the variables that fire at record i, of n variables and c conditions
+unfoldable pub firingBy : List ℕ → List ℕ → ℕ → ℕ → ℕ → Held → ℕ
+firingBy plan bytes n c i h = mask (λ v. firesBy plan bytes i (canBy plan n c bytes i) v h) n
+
+-- a slot that holds a reading of the first n variables, with its state; its records stand below j, none of them behind the
+-- latest binding's
+pub record Reads (n j : ℕ) (slot : List ℕ) : Type 0 where
+  pub size : length slot ≡ slotBytes
+  pub few : countIn slot ≤ mostBindings
+  pub held : heldIn slot ≡ holding (heldIn slot .bindings)
+  pub variable : (b : Binding) → List·Memᴰ b (heldIn slot .bindings) → b .variable < n
+  pub below : (b : Binding) → List·Memᴰ b (heldIn slot .bindings) → b .at < j
+  pub latest : (b : Binding) → List·Memᴰ b (heldIn slot .bindings) → b .at ≤ lastOf (heldIn slot .bindings)
+
+-- a plan, a block and the counts of variables and conditions that go with them
+pub record Usable (plan bytes : List ℕ) (n c : ℕ) : Type 0 where
+  pub sound : Sound plan
+  pub variables : n ≤ mostVariables
+  pub conditions : c ≤ mostConditions
+  pub records : recordCount bytes ≤ mostRecords
+
+-- what a call at record j may count on
+pub record Ready (plan bytes : List ℕ) (s : Start) (slot : List ℕ) (j : ℕ) : Type 0 where
+  pub usable : Usable plan bytes (s .n) (s .c)
+  pub mark : s .mark < 16
+  pub block : s .until ≤ recordCount bytes
+  pub within : j ≤ s .until
+  pub reads : Reads (s .n) j slot
+
+-- and where some of the variables fire
+pub record Firing (plan bytes : List ℕ) (s : Start) (slot : List ℕ) (j firing : ℕ) : Type 0 where
+  pub ready : Ready plan bytes s slot j
+  pub before : j < s .until
+  pub room : countIn slot < mostBindings
+  pub variables : firing < 2 ^ mostVariables
+  pub known : (v : ℕ) → bit firing v ≡ true → v < s .n
+
+-- f is the next record from j on that fires, and the variables that fire there; the record at which the reading closes,
+-- where none does
+pub record NextBy (plan bytes : List ℕ) (s : Start) (slot : List ℕ) (j : ℕ) (f : Fire) : Type 0 where
+  pub from : j ≤ f .at
+  pub upTo : f .at ≤ s .until
+  pub passed : (i : ℕ) → j ≤ i → i < f .at → firingBy plan bytes (s .n) (s .c) i (heldIn slot) ≡ 0
+  pub here : f .at < s .until → f .variables ≡ firingBy plan bytes (s .n) (s .c) (f .at) (heldIn slot)
+  pub some : f .at < s .until → 0 < f .variables
+
+-- ## What is found, for each pattern that the plan is made of
+
+pub record Of (p : Pattern) (plan bytes : List ℕ) (n c : ℕ) : Type 0 where
+  pub order : InOrder p
+  pub made : IsPlan p plan
+  pub rising : TimesNeverFall (recordsOf bytes)
+  pub variables : n ≡ p .n
+  pub conditions : c ≡ p .c
+
+-- a reading that closes
+pub record Closed (s : Start) (slot : List ℕ) (before after : Sink) : Type 0 where
+  pub found : (p : Pattern) → s .n ≡ p .n → after ≡ emits before (close p (s .mark) (heldIn slot .bindings))
+
+-- a reading that is held before record j
+pub record Skipped (plan bytes : List ℕ) (s : Start) (slot : List ℕ) (j : ℕ) (before after : Sink) : Type 0 where
+  pub found :
+      (p : Pattern) → Of p plan bytes (s .n) (s .c)
+      → after ≡ emits before (skipUntil p (recordsOf bytes) (s .mark) (s .until) j (heldIn slot .bindings))
+
+-- each of the firing variables in turn, at record j
+abbrev pub branchOver : Pattern → Block → ℕ → ℕ → ℕ → Reading → ℕ → List Found
+branchOver p B mark end j r firing =
+    inTurn (bit firing) (λ w. skipUntil p B mark end (suc j) (withBinding r w j)) 0 (p .n)
+
+pub record Branched (plan bytes : List ℕ) (s : Start) (slot : List ℕ) (j firing : ℕ) (before after : Sink) : Type 0 where
+  pub found :
+      (p : Pattern) → Of p plan bytes (s .n) (s .c)
+      → after ≡ emits before (branchOver p (recordsOf bytes) (s .mark) (s .until) j (heldIn slot .bindings) firing)
+
+-- ## Starts
+
+-- records i + 1 to k are events of the window of record i
+pub record OpenTo (bytes : List ℕ) (duration i k : ℕ) : Type 0 where
+  pub event : (q : ℕ) → i < q → q < k → recordAt bytes q .kind ≡ eventKind
+  pub near : (q : ℕ) → i < q → q < k → recordAt bytes q .time ≤ recordAt bytes i .time + duration
+
+-- s is what record i fixes as the first of a reading
+pub record StartIs (bytes : List ℕ) (n c duration i : ℕ) (s : Start) : Type 0 where
+  pub variables : s .n ≡ n
+  pub conditions : s .c ≡ c
+  pub after : i < s .until
+  pub block : s .until ≤ recordCount bytes
+  pub small : s .mark < 16
+  pub closes : (p : Pattern) → p .duration ≡ duration → s .until ≡ until p (recordsOf bytes) i
+  pub mark : (p : Pattern) → p .duration ≡ duration → s .mark ≡ markOf p (recordsOf bytes) i
+
+-- from record i
+pub record Started (plan bytes : List ℕ) (n c duration i : ℕ) (before after : Sink) : Type 0 where
+  pub found :
+      (p : Pattern) → Of p plan bytes n c → p .duration ≡ duration
+      → after ≡ emits before (startFound p (recordsOf bytes) i)
+
+-- from each record in turn
+pub record AllStarted (plan bytes : List ℕ) (n c duration : ℕ) (before after : Sink) : Type 0 where
+  pub found :
+      (p : Pattern) → Of p plan bytes n c → p .duration ≡ duration
+      → after ≡ emits before (foundAll p (recordsOf bytes))

@@ -1,0 +1,455 @@
+// The start-by-start pass, and measure.
+ghost use mathlib.Core.Path.{_≡_};
+ghost use Prim.Native.Nat.{ℕ, _+_, _-_, _*_, _^_, _/_, _<_, _≤_, min};
+ghost use lib.Dec.{ltb};
+ghost use lib.ListN.{length, replicate};
+ghost use Rattle.numbers.specs.Numbers.{oneIf};
+ghost use Rattle.numbers.specs.Bits.{within};
+ghost use Rattle.records.specs.Records.{recordBytes, recordCount, recordsOf};
+ghost use Rattle.records.specs.Blocks.{InOrder as BlockInOrder};
+ghost use Rattle.patterns.specs.Checked.{InOrder};
+ghost use Rattle.rule.specs.Promises.{mostCounted};
+ghost use Rattle.rule.specs.Starts.{foundAll};
+ghost use Rattle.rule.specs.Starts.Found.{closed, over};
+ghost use Rattle.rule.specs.Calls.{StartByStartCall, MeasureCall};
+ghost use Rattle.slots.specs.Slots.{slotBytes, countIn, stateIn, heldIn};
+ghost use Rattle.firing.specs.Firing.{Fit};
+ghost use Rattle.starts.specs.Sinks.{sinkOf, sum as sumTo, emit, emits, noneYet, answerBy, leftBy, measureBy};
+ghost use Rattle.starts.specs.Skips.{firingBy, Reads, Usable, Ready, Firing, NextBy, Closed, Skipped, Branched, StartIs, Started, AllStarted};
+
+const RECORD_BYTES: usize = 16;
+
+// The number of no record.
+const MOST_RECORDS: usize = 4096;
+
+const MOST_BINDINGS: usize = 32;
+
+// Where measure's counts stop.
+const MOST_COUNTED: usize = 4294967295;
+
+// Where counts stop: beyond any room.
+const STOP: usize = 18446744073709551615;
+
+// The marks of a reading that closes.
+const PAST_MARK: u8 = 1;
+
+const END_MARK: u8 = 2;
+
+const GAP_MARK: u8 = 3;
+
+// What one start fixes: how many variables and conditions there are, the record at which its readings close, and their mark.
+pub struct Start {
+    pub n: usize,
+    pub c: usize,
+    pub until: usize,
+    pub mark: u8,
+}
+
+// The numbers and readings so far, and the least record at which a reading would take a 33rd binding.
+pub struct Counts {
+    pub used: usize,
+    pub readings: usize,
+    pub least: usize,
+}
+
+// A record that fires, and the variables that fire there.
+pub struct Fire {
+    pub at: usize,
+    pub variables: u64,
+}
+
+// ## What is written and counted
+
+// The sum, or the largest number where it does not fit.
+fn sum(a: usize, b: usize) -> usize
+    ensures { λ r. ⌜ r ≡ sumTo a b ⌝ }
+{
+    if a <= STOP - b { a + b } else { STOP }
+}
+
+// Writes a reading that closed, where there is room, and counts it.
+fn report(result: &mut [u8], slot: &[u8], mark: u8, counts: Counts) -> Counts
+    requires { ⌜ (length (now slot) ≡ slotBytes) × (countIn (now slot) ≤ 32) × (mark < 16) ⌝ }
+    ensures { λ o. ⌜ sinkOf (now (result .exit)) o ≡ emit (sinkOf (now (result .entry)) counts) (closed mark (heldIn (now (slot .entry)) .bindings)) ⌝ }
+{
+    let bindings = slots::count_of(slot);
+    let at = counts.used;
+    let more = Counts {
+        used: sum(at, bindings + 1),
+        readings: sum(counts.readings, 1),
+        least: counts.least,
+    };
+    let room = result.len() / 2;
+    if at < room {
+        if bindings < room - at {
+            slots::put_line(result, 2 * at, mark, slot);
+        }
+    }
+    more
+}
+
+// Whether a state holds all n variables.
+fn is_full(state: u64, n: usize) -> bool
+    requires { ⌜ n ≤ 12 ⌝ }
+    ensures { λ r. ⌜ r ≡ within (2 ^ n - 1) state ⌝ }
+{
+    numbers::is_within(numbers::weight(n) - 1, state)
+}
+
+// A reading closes: it is reported where its state is full.
+fn close(result: &mut [u8], slot: &[u8], s: Start, counts: Counts) -> Counts
+    requires { ⌜ (Reads (s .n) (s .until) (now slot)) × (s .n ≤ 12) × (s .mark < 16) ⌝ }
+    ensures { λ o. ⌜ Closed s (now (slot .entry)) (sinkOf (now (result .entry)) counts) (sinkOf (now (result .exit)) o) ⌝ }
+{
+    if is_full(slots::state_of(slot), s.n) {
+        report(result, slot, s.mark, counts)
+    } else {
+        counts
+    }
+}
+
+// A 33rd binding would be taken at record j: the least such record is kept.
+fn note_over(counts: Counts, j: usize) -> Counts
+    ensures { λ o. ⌜ (o .used ≡ counts .used) × (o .readings ≡ counts .readings) × (o .least ≡ min (counts .least) j) ⌝ }
+{
+    if j < counts.least {
+        Counts {
+            used: counts.used,
+            readings: counts.readings,
+            least: j,
+        }
+    } else {
+        counts
+    }
+}
+
+// ## Skip and branch
+
+fn weight_if(yes: bool, v: usize) -> u64
+    requires { ⌜ v < 64 ⌝ }
+    ensures { λ r. ⌜ r ≡ oneIf yes * 2 ^ v ⌝ }
+{
+    if yes { numbers::weight(v) } else { 0 }
+}
+
+// The variables that fire at record i, for a reading.
+fn firing_at(block: &[u8], plan: &[u64; 80], n: usize, c: usize, i: usize, slot: &[u8]) -> u64
+    requires { ⌜ (n ≤ 12) × (c ≤ 32) × Fit (now plan) (now block) i (now slot) ⌝ }
+    ensures { λ r. ⌜ r ≡ firingBy (now (plan .entry)) (now (block .entry)) n c i (heldIn (now (slot .entry))) ⌝ }
+{
+    let can = firing::can_fire(plan, n, c, block, i);
+    if can == 0 {
+        return 0;
+    }
+    let mut firing = 0;
+    let mut v = 0;
+    while v < n {
+        firing = firing + weight_if(firing::fires(plan, block, i, can, v, slot), v);
+        v += 1;
+    }
+    firing
+}
+
+// Skips to the next record from j on that fires; to the record at which the reading closes, where none does.
+fn next_fire(block: &[u8], plan: &[u64; 80], s: Start, j: usize, slot: &[u8]) -> Fire
+    requires { ⌜ Ready (now plan) (now block) s (now slot) j ⌝ }
+    ensures { λ f. ⌜ NextBy (now (plan .entry)) (now (block .entry)) s (now (slot .entry)) j f ⌝ }
+{
+    let mut i = j;
+    while i < s.until {
+        let firing = firing_at(block, plan, s.n, s.c, i, slot);
+        if firing != 0 {
+            return Fire {
+                at: i,
+                variables: firing,
+            };
+        }
+        i += 1;
+    }
+    Fire {
+        at: i,
+        variables: 0,
+    }
+}
+
+// From a reading that is held before record j: on to the next record that fires.
+fn skip(
+    block: &[u8],
+    plan: &[u64; 80],
+    slot: slots::Slot,
+    j: usize,
+    s: Start,
+    result: &mut [u8],
+    counts: Counts,
+) -> Counts
+    requires { ⌜ Ready (now plan) (now block) s (slot .bytes) j ⌝ }
+    ensures { λ o. ⌜ Skipped (now (plan .entry)) (now (block .entry)) s (slot .bytes) j (sinkOf (now (result .entry)) counts) (sinkOf (now (result .exit)) o) ⌝ }
+{
+    let fire = next_fire(block, plan, s, j, &slot.bytes);
+    if fire.at == s.until {
+        return close(result, &slot.bytes, s, counts);
+    }
+    if slots::count_of(&slot.bytes) == MOST_BINDINGS {
+        return note_over(counts, fire.at);
+    }
+    branch(
+        block,
+        plan,
+        slot,
+        fire.at,
+        fire.variables,
+        s,
+        result,
+        counts,
+    )
+}
+
+// At record j, each of the firing variables in turn.
+fn branch(
+    block: &[u8],
+    plan: &[u64; 80],
+    slot: slots::Slot,
+    j: usize,
+    firing: u64,
+    s: Start,
+    result: &mut [u8],
+    counts: Counts,
+) -> Counts
+    requires { ⌜ Firing (now plan) (now block) s (slot .bytes) j firing ⌝ }
+    ensures { λ o. ⌜ Branched (now (plan .entry)) (now (block .entry)) s (slot .bytes) j firing (sinkOf (now (result .entry)) counts) (sinkOf (now (result .exit)) o) ⌝ }
+{
+    if firing == 0 {
+        return counts;
+    }
+    let v = numbers::lowest_bit(firing);
+    let bytes = slot.bytes;
+    let more = slots::grown(bytes, j, v);
+    let after = skip(
+        block,
+        plan,
+        slots::Slot { bytes: more },
+        j + 1,
+        s,
+        result,
+        counts,
+    );
+    branch(
+        block,
+        plan,
+        slot,
+        j,
+        numbers::without_bit(firing, v),
+        s,
+        result,
+        after,
+    )
+}
+
+// ## Starts
+
+// Whether a time is more than the duration after the first.
+fn is_past(first: u64, duration: u64, time: u64) -> bool
+    ensures { λ r. ⌜ r ≡ ltb (first + duration) time ⌝ }
+{
+    if time < first {
+        return false;
+    }
+    duration < time - first
+}
+
+// What record i fixes as the first of a reading.
+fn start_at(block: &[u8], n: usize, c: usize, duration: u64, i: usize) -> Start
+    requires { ⌜ i < recordCount (now block) ⌝ }
+    ensures { λ s. ⌜ StartIs (now (block .entry)) n c duration i s ⌝ }
+{
+    let first = records::time_at(block, i);
+    let count = block.len() / RECORD_BYTES;
+    let mut k = i + 1;
+    while k < count {
+        let r = records::unpack(block, k);
+        if r.kind != 0 {
+            return Start {
+                n,
+                c,
+                until: k,
+                mark: GAP_MARK,
+            };
+        }
+        if is_past(first, duration, r.time) {
+            return Start {
+                n,
+                c,
+                until: k,
+                mark: PAST_MARK,
+            };
+        }
+        k += 1;
+    }
+    Start {
+        n,
+        c,
+        until: count,
+        mark: END_MARK,
+    }
+}
+
+// Record i as the first of a reading.
+fn one_start(
+    block: &[u8],
+    plan: &[u64; 80],
+    n: usize,
+    c: usize,
+    duration: u64,
+    i: usize,
+    result: &mut [u8],
+    counts: Counts,
+) -> Counts
+    requires { ⌜ (Usable (now plan) (now block) n c) × (i < recordCount (now block)) ⌝ }
+    ensures { λ o. ⌜ Started (now (plan .entry)) (now (block .entry)) n c duration i (sinkOf (now (result .entry)) counts) (sinkOf (now (result .exit)) o) ⌝ }
+{
+    if records::unpack(block, i).kind != 0 {
+        return counts;
+    }
+    let empty = slots::empty_slot();
+    let firing = firing_at(block, plan, n, c, i, &empty);
+    if firing == 0 {
+        return counts;
+    }
+    let s = start_at(block, n, c, duration, i);
+    branch(
+        block,
+        plan,
+        slots::Slot { bytes: empty },
+        i,
+        firing,
+        s,
+        result,
+        counts,
+    )
+}
+
+// Each record in turn as the first of a reading.
+fn each_start(
+    block: &[u8],
+    plan: &[u64; 80],
+    n: usize,
+    c: usize,
+    duration: u64,
+    result: &mut [u8],
+) -> Counts
+    requires { ⌜ Usable (now plan) (now block) n c ⌝ }
+    ensures { λ o. ⌜ AllStarted (now (plan .entry)) (now (block .entry)) n c duration (sinkOf (now (result .entry)) noneYet) (sinkOf (now (result .exit)) o) ⌝ }
+{
+    let mut counts = Counts {
+        used: 0,
+        readings: 0,
+        least: MOST_RECORDS,
+    };
+    let count = block.len() / RECORD_BYTES;
+    let mut i = 0;
+    while i < count {
+        counts = one_start(block, plan, n, c, duration, i, result, counts);
+        i += 1;
+    }
+    counts
+}
+
+// All that is found of a checked pattern in a checked block.
+fn pass(p: patterns::Pattern, block: &[u8], result: &mut [u8]) -> Counts
+    requires { ⌜ (InOrder p) × BlockInOrder (now block) ⌝ }
+    ensures { λ o. ⌜ sinkOf (now (result .exit)) o ≡ emits (sinkOf (now (result .entry)) noneYet) (foundAll p (recordsOf (now (block .entry)))) ⌝ }
+{
+    let plan = firing::plan_of(p);
+    each_start(block, &plan, p.n, p.c, p.duration, result)
+}
+
+// ## The calls
+
+// A refusal: the result is all 0.
+fn refuse(result: &mut [u8], answer: records::Answer) -> records::Answer
+    ensures { λ a. ⌜ (a ≡ answer) × (now (result .exit) ≡ replicate (length (now (result .entry))) 0) ⌝ }
+{
+    slots::clear(result);
+    answer
+}
+
+// Refusals 9 and 11, or what was counted with the bytes behind it 0.
+fn finish(result: &mut [u8], counts: Counts) -> records::Answer
+    ensures { λ a. ⌜ (a ≡ answerBy counts (length (now (result .entry)) / 2)) × (now (result .exit) ≡ leftBy counts (now (result .entry))) ⌝ }
+{
+    if counts.least < MOST_RECORDS {
+        return refuse(result, records::refusal(9, counts.least as u32));
+    }
+    if result.len() / 2 < counts.used {
+        return refuse(result, records::refusal(11, 0));
+    }
+    slots::clear_from(result, 2 * counts.used);
+    records::Answer {
+        code: 0,
+        place: 0,
+        used: counts.used as u64,
+        readings: counts.readings as u64,
+        peak: 0,
+    }
+}
+
+// A count that stops at 4,294,967,295.
+fn capped(count: usize) -> u64
+    ensures { λ r. ⌜ r ≡ min count mostCounted ⌝ }
+{
+    if count < 4294967295 {
+        count as u64
+    } else {
+        4294967295
+    }
+}
+
+// Refusal 9, or what was counted.
+fn measured(counts: Counts) -> records::Answer
+    ensures { λ a. ⌜ a ≡ measureBy counts ⌝ }
+{
+    if counts.least < MOST_RECORDS {
+        return records::refusal(9, counts.least as u32);
+    }
+    records::Answer {
+        code: 0,
+        place: 0,
+        used: capped(counts.used),
+        readings: capped(counts.readings),
+        peak: 0,
+    }
+}
+
+// The start-by-start pass over a pattern's and a block's bytes: it skips to the next record that fires, then takes each
+// firing variable in turn and goes on from there. It refuses 9, then 11, each over the whole block; no record is bound twice
+// in one reading, so 13 is not given.
+pub fn start_by_start(pattern: &[u8], block: &[u8], result: &mut [u8]) -> records::Answer
+    ensures { λ a. ⌜ StartByStartCall (now (pattern .entry)) (now (block .entry)) (length (now (result .entry))) a (now (result .exit)) ⌝ }
+{
+    let checked = patterns::check_pattern(pattern);
+    if checked.code != 0 {
+        return refuse(result, records::refusal(checked.code, checked.place));
+    }
+    let input = records::check_block(block);
+    if input.code != 0 {
+        return refuse(result, input);
+    }
+    let counts = pass(checked.pattern, block, result);
+    finish(result, counts)
+}
+
+// Readings and used of the start-by-start pass, over no result.
+pub fn measure(pattern: &[u8], block: &[u8]) -> records::Answer
+    ensures { λ a. ⌜ MeasureCall (now (pattern .entry)) (now (block .entry)) a ⌝ }
+{
+    let checked = patterns::check_pattern(pattern);
+    if checked.code != 0 {
+        return records::refusal(checked.code, checked.place);
+    }
+    let input = records::check_block(block);
+    if input.code != 0 {
+        return input;
+    }
+    let mut none = [0u8; 1];
+    measured(pass(checked.pattern, block, &mut none[0..0]))
+}
