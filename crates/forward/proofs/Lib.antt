@@ -1,0 +1,14 @@
+pub mod Parts
+pub mod Longs
+pub mod Memory
+pub mod Lines
+pub mod Steps
+pub mod Gone
+pub mod Adding
+pub mod Fits
+pub mod Moving
+pub mod Lists
+pub mod Rounds
+pub mod Closings
+pub mod Going
+pub mod Calls

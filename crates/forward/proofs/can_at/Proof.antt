@@ -1,0 +1,27 @@
+-- `forward::can_at` meets its contract: no variable at a gap. Assumes nothing.
+use mathlib.Core.Path.{sym, _∙_}
+use Rattle.forward.proofs.Closings.{can-event, can-gap}
+use borrow.Author.Needs.{needs}
+use Rattle.forward.proofs.can_at.Statement.{statement}
+use Rattle.forward.proofs.can_at.Tie as tie
+
+is-event-requires : tie.Need-is-event-requires
+is-event-requires c κs = search needs
+
+can-fire-requires : tie.Need-can-fire-requires
+can-fire-requires c κs = search needs
+
+returns : tie.Need-returns
+returns c =
+    let e = c .before .before in
+    let a = e .before .before .args in
+    c .can-fire .ensures .0 ∙ sym (can-event (a .plan .now) (a .n) (a .c) (a .block .now) (a .i) (sym (e .is-event .ensures) ∙ c .before .if1 .taken))
+
+returns-2 : tie.Need-returns-2
+returns-2 c =
+    let e = c .before in
+    let a = e .before .before .args in
+    sym (can-gap (a .plan .now) (a .n) (a .c) (a .block .now) (a .i) (sym (e .is-event .ensures) ∙ c .if1 .left))
+
+pub can-at-spec : {M : Type 1} → statement M
+can-at-spec = tie.close (tie.spec is-event-requires can-fire-requires returns returns-2)

@@ -1,0 +1,4 @@
+pub mod Live
+pub mod Memory
+pub mod Lines
+pub mod Passes

@@ -1,0 +1,527 @@
+// The forward pass: one pass over the records, with the live readings in lent working memory.
+ghost use mathlib.Core.Path.{_≡_};
+ghost use mathlib.Core.Logic.{_⊎_};
+ghost use mathlib.Core.Bool.{Bool, true, false, not};
+ghost use mathlib.Core.List.{List, [], _∷_, _++_};
+ghost use Prim.Native.Nat.{ℕ, _+_, _-_, _*_, _≤_, _<_, max};
+ghost use lib.ListN.{length, replicate};
+ghost use Rattle.numbers.specs.Numbers.{first};
+ghost use Rattle.records.specs.Records.{recordBytes};
+ghost use Rattle.patterns.specs.Patterns.{mostVariables, mostConditions};
+ghost use Rattle.rule.specs.Rule.{startOf};
+ghost use Rattle.rule.specs.Lists.{line};
+ghost use Rattle.rule.specs.Calls.{ForwardCall};
+ghost use Rattle.slots.specs.Slots.{Held, slotBytes, slotAt, slotsAt, heldIn, countIn, grow};
+ghost use Rattle.firing.specs.Plan.{Sound};
+ghost use Rattle.firing.specs.Firing.{firesBy, Fit};
+ghost use Rattle.forward.specs.Live.{oneBy, firedBy, extendBy, stepBy, isLong, long, isEventBy, markBy, canAt, linesBy, isLate};
+ghost use Rattle.forward.specs.Memory.{Standing, Outside, Added, Ready, Begun, firstInTime, goneBy, Stands, Moved};
+ghost use Rattle.forward.specs.Lines.{Told, Wrote};
+ghost use Rattle.forward.specs.Passes.{Prepared, Ran, Finished, limitBroken};
+use patterns::Pattern;
+use records::Answer;
+
+const SLOT_BYTES: usize = 80;
+
+const MOST_BINDINGS: usize = 32;
+
+const RECORD_BYTES: usize = 16;
+
+const MOST_LIVE: u32 = 256;
+
+const WORK_PER_READING: usize = 160;
+
+const EVENT: u8 = 0;
+
+const PAST_MARK: u8 = 1;
+
+const END_MARK: u8 = 2;
+
+const GAP_MARK: u8 = 3;
+
+// How many readings were put out, and whether one of them has a 33rd binding.
+pub struct Out {
+    pub total: usize,
+    pub over: bool,
+}
+
+// How many bytes and readings were reported, and whether the result is too short for them.
+pub struct Tell {
+    pub used: usize,
+    pub readings: usize,
+    pub short: bool,
+}
+
+// ## Closing
+
+// Is record i more than the duration after the reading's first?
+fn is_late(block: &[u8], i: usize, duration: u64, slot: &[u8]) -> bool
+    requires { ⌜ (recordBytes * i + recordBytes ≤ length (now block)) × (length (now slot) ≡ slotBytes) × (1 ≤ countIn (now slot)) ⌝ }
+    requires { ⌜ recordBytes * startOf (heldIn (now slot) .bindings) + recordBytes ≤ length (now block) ⌝ }
+    ensures { λ r. ⌜ r ≡ isLate (now (block .entry)) i duration (heldIn (now (slot .entry))) ⌝ }
+{
+    let first = records::time_at(block, slots::binding_record(slot, 0));
+    let time = records::time_at(block, i);
+    if time <= first {
+        return false;
+    }
+    duration < time - first
+}
+
+// How many of the readings from src on, count of them, are late: they stand in front.
+fn count_late(work: &[u8], block: &[u8], i: usize, duration: u64, src: usize, count: usize) -> usize
+    requires { ⌜ (src + slotBytes * count ≤ length (now work)) × (recordBytes * i + recordBytes ≤ length (now block)) × Begun (now work) (now block) src count ⌝ }
+    ensures { λ r. ⌜ r ≡ firstInTime (now (block .entry)) i duration (now (work .entry)) src count ⌝ }
+{
+    let mut k = 0;
+    while k < count {
+        let at = src + SLOT_BYTES * k;
+        let end = at + SLOT_BYTES;
+        if !is_late(block, i, duration, &work[at..end]) {
+            return k;
+        }
+        k += 1;
+    }
+    count
+}
+
+fn is_event(block: &[u8], i: usize) -> bool
+    requires { ⌜ recordBytes * i + recordBytes ≤ length (now block) ⌝ }
+    ensures { λ r. ⌜ r ≡ isEventBy (now (block .entry)) i ⌝ }
+{
+    records::unpack(block, i).kind == EVENT
+}
+
+// How many of the readings close at record i: at a gap all, otherwise the late ones.
+fn count_gone(work: &[u8], block: &[u8], i: usize, duration: u64, src: usize, count: usize) -> usize
+    requires { ⌜ (src + slotBytes * count ≤ length (now work)) × (recordBytes * i + recordBytes ≤ length (now block)) × Begun (now work) (now block) src count ⌝ }
+    ensures { λ r. ⌜ r ≡ goneBy (now (block .entry)) i duration (now (work .entry)) src count ⌝ }
+{
+    if is_event(block, i) {
+        return count_late(work, block, i, duration, src, count);
+    }
+    count
+}
+
+// The mark of the readings that close at record i.
+fn mark_at(block: &[u8], i: usize) -> u8
+    requires { ⌜ recordBytes * i + recordBytes ≤ length (now block) ⌝ }
+    ensures { λ r. ⌜ (r ≡ markBy (now (block .entry)) i) × (r < 16) ⌝ }
+{
+    if is_event(block, i) {
+        return PAST_MARK;
+    }
+    GAP_MARK
+}
+
+// Reports one reading, or notes that the room is short.
+fn tell_one(result: &mut [u8], mark: u8, slot: &[u8], tell: Tell) -> Tell
+    requires { ⌜ (length (now slot) ≡ slotBytes) × (countIn (now slot) ≤ 32) × (mark < 16) × (tell .used ≤ length (now result)) × (tell .readings ≤ tell .used) ⌝ }
+    ensures { λ r. ⌜ Wrote (now (result .entry)) (now (result .exit)) (tell .used) (tell .readings) (tell .short) (r .used) (r .readings) (r .short) (line mark (heldIn (now (slot .entry)) .bindings) ∷ []) ⌝ }
+{
+    if tell.short {
+        return tell;
+    }
+    let at = tell.used;
+    let end = at + 2 + 2 * slots::count_of(slot);
+    if result.len() < end {
+        return Tell {
+            used: at,
+            readings: tell.readings,
+            short: true,
+        };
+    }
+    slots::put_line(result, at, mark, slot);
+    Tell {
+        used: end,
+        readings: tell.readings + 1,
+        short: false,
+    }
+}
+
+// Reports a reading that closes, if it is full.
+fn close_one(result: &mut [u8], full: u64, mark: u8, slot: &[u8], tell: Tell) -> Tell
+    requires { ⌜ (length (now slot) ≡ slotBytes) × (countIn (now slot) ≤ 32) × (mark < 16) × (tell .used ≤ length (now result)) × (tell .readings ≤ tell .used) ⌝ }
+    ensures { λ r. ⌜ Wrote (now (result .entry)) (now (result .exit)) (tell .used) (tell .readings) (tell .short) (r .used) (r .readings) (r .short) (linesBy full mark (heldIn (now (slot .entry)) ∷ [])) ⌝ }
+{
+    if numbers::is_within(full, slots::state_of(slot)) {
+        return tell_one(result, mark, slot, tell);
+    }
+    tell
+}
+
+// Reports the full ones of the readings from src on, count of them, which close.
+fn close_all(
+    result: &mut [u8],
+    work: &[u8],
+    src: usize,
+    count: usize,
+    full: u64,
+    mark: u8,
+    tell: Tell,
+) -> Tell
+    requires { ⌜ (src + slotBytes * count ≤ length (now work)) × (long (slotsAt (now work) src count) ≡ false) × (mark < 16) × (tell .used ≤ length (now result)) × (tell .readings ≤ tell .used) ⌝ }
+    ensures { λ r. ⌜ Wrote (now (result .entry)) (now (result .exit)) (tell .used) (tell .readings) (tell .short) (r .used) (r .readings) (r .short) (linesBy full mark (slotsAt (now (work .entry)) src count)) ⌝ }
+{
+    let mut told = tell;
+    let mut k = 0;
+    while k < count {
+        let at = src + SLOT_BYTES * k;
+        let end = at + SLOT_BYTES;
+        told = close_one(result, full, mark, &work[at..end], told);
+        k += 1;
+    }
+    told
+}
+
+// ## Going on
+
+// Puts out one reading that has at most 32 bindings.
+fn emit(work: &mut [u8], slot: &[u8; 80], dst: usize, limit: usize, out: Out) -> Out
+    requires { ⌜ (dst + slotBytes * limit ≤ length (now work)) × (length (now slot) ≡ slotBytes) × (isLong (heldIn (now slot)) ≡ false) × (out .total < 65536) ⌝ }
+    ensures { λ r. ⌜ Added (now (work .entry)) (now (work .exit)) dst limit (out .total) (out .over) (r .total) (r .over) (heldIn (now (slot .entry)) ∷ []) ⌝ }
+{
+    let total = out.total;
+    if limit <= total {
+        return Out {
+            total: total + 1,
+            over: out.over,
+        };
+    }
+    let at = dst + SLOT_BYTES * total;
+    let end = at + SLOT_BYTES;
+    slots::store(&mut work[at..end], slot);
+    Out {
+        total: total + 1,
+        over: out.over,
+    }
+}
+
+// Puts out the slot's reading with variable v bound to record i, or notes a 33rd binding.
+fn emit_grown(
+    work: &mut [u8],
+    slot: &[u8; 80],
+    i: usize,
+    v: usize,
+    dst: usize,
+    limit: usize,
+    out: Out,
+) -> Out
+    requires { ⌜ (dst + slotBytes * limit ≤ length (now work)) × (length (now slot) ≡ slotBytes) × (out .total < 65536) × (v < 12) × (i < 4096) ⌝ }
+    ensures { λ r. ⌜ Added (now (work .entry)) (now (work .exit)) dst limit (out .total) (out .over) (r .total) (r .over) (grow i v (heldIn (now (slot .entry))) ∷ []) ⌝ }
+{
+    if slots::count_of(slot) < MOST_BINDINGS {
+        let more = slots::grown(*slot, i, v);
+        return emit(work, &more, dst, limit, out);
+    }
+    Out {
+        total: out.total + 1,
+        over: true,
+    }
+}
+
+// Puts out the extension by one variable, if it fires.
+fn try_one(
+    work: &mut [u8],
+    plan: &[u64; 80],
+    block: &[u8],
+    i: usize,
+    can: u64,
+    v: usize,
+    slot: &[u8; 80],
+    dst: usize,
+    limit: usize,
+    out: Out,
+) -> Out
+    requires { ⌜ (dst + slotBytes * limit ≤ length (now work)) × (out .total < 65536) × (v < mostVariables) × (i < 4096) × Fit (now plan) (now block) i (now slot) ⌝ }
+    ensures { λ r. ⌜ Added (now (work .entry)) (now (work .exit)) dst limit (out .total) (out .over) (r .total) (r .over) (oneBy (now (plan .entry)) (now (block .entry)) i can v (heldIn (now (slot .entry)))) ⌝ }
+{
+    if firing::fires(plan, block, i, can, v, slot) {
+        return emit_grown(work, slot, i, v, dst, limit, out);
+    }
+    out
+}
+
+// Puts out the extensions of the slot's reading by each variable below n that fires, the smallest first.
+fn spread(
+    work: &mut [u8],
+    plan: &[u64; 80],
+    block: &[u8],
+    i: usize,
+    can: u64,
+    n: usize,
+    slot: &[u8; 80],
+    dst: usize,
+    limit: usize,
+    out: Out,
+) -> Out
+    requires { ⌜ (dst + slotBytes * limit ≤ length (now work)) × (out .total + 12 < 65536) × (n ≤ mostVariables) × (i < 4096) × Fit (now plan) (now block) i (now slot) ⌝ }
+    ensures { λ r. ⌜ Added (now (work .entry)) (now (work .exit)) dst limit (out .total) (out .over) (r .total) (r .over) (firedBy (now (plan .entry)) (now (block .entry)) i can n (heldIn (now (slot .entry)))) ⌝ }
+{
+    let mut more = out;
+    let mut v = 0;
+    while v < n {
+        more = try_one(work, plan, block, i, can, v, slot, dst, limit, more);
+        v += 1;
+    }
+    more
+}
+
+// Puts out what a live reading becomes: its extensions, or itself where there are none.
+fn extend_one(
+    work: &mut [u8],
+    plan: &[u64; 80],
+    block: &[u8],
+    i: usize,
+    can: u64,
+    n: usize,
+    slot: &[u8; 80],
+    dst: usize,
+    limit: usize,
+    out: Out,
+) -> Out
+    requires { ⌜ (dst + slotBytes * limit ≤ length (now work)) × (out .total + 12 < 65536) × (n ≤ mostVariables) × (i < 4096) × Fit (now plan) (now block) i (now slot) ⌝ }
+    ensures { λ r. ⌜ Added (now (work .entry)) (now (work .exit)) dst limit (out .total) (out .over) (r .total) (r .over) (extendBy (now (plan .entry)) (now (block .entry)) i can n (heldIn (now (slot .entry)))) ⌝ }
+{
+    let total = out.total;
+    let more = spread(work, plan, block, i, can, n, slot, dst, limit, out);
+    let now = more.total;
+    if total < now {
+        return more;
+    }
+    emit(work, slot, dst, limit, more)
+}
+
+// The live readings from src on, count of them, are replaced by what they become at event i, then those that begin.
+fn advance(
+    work: &mut [u8],
+    plan: &[u64; 80],
+    block: &[u8],
+    i: usize,
+    can: u64,
+    n: usize,
+    src: usize,
+    count: usize,
+    dst: usize,
+    limit: usize,
+) -> Out
+    requires { ⌜ (dst + slotBytes * limit ≤ length (now work)) × (src + slotBytes * count ≤ length (now work)) × ((src + slotBytes * count ≤ dst) ⊎ (dst + slotBytes * limit ≤ src)) ⌝ }
+    requires { ⌜ (count ≤ 256) × (n ≤ mostVariables) × (i < 4096) × Sound (now plan) × (recordBytes * i + recordBytes ≤ length (now block)) × Ready (now work) (now plan) (now block) i src count ⌝ }
+    ensures { λ r. ⌜ Added (now (work .entry)) (now (work .exit)) dst limit 0 false (r .total) (r .over) (stepBy (now (plan .entry)) (now (block .entry)) i can n (slotsAt (now (work .entry)) src count)) ⌝ }
+{
+    let mut out = Out {
+        total: 0,
+        over: false,
+    };
+    let mut k = 0;
+    while k < count {
+        let at = src + SLOT_BYTES * k;
+        let end = at + SLOT_BYTES;
+        let slot = slots::load(&work[at..end]);
+        out = extend_one(work, plan, block, i, can, n, &slot, dst, limit, out);
+        k += 1;
+    }
+    let none = slots::empty_slot();
+    spread(work, plan, block, i, can, n, &none, dst, limit, out)
+}
+
+// Where the live readings stand: the half of working memory, the place of the first, how many; and whether one of them has
+// a 33rd binding.
+pub struct Stand {
+    pub half: usize,
+    pub start: usize,
+    pub count: usize,
+    pub over: bool,
+}
+
+// The live readings after record i. Where no variable can fire nothing moves.
+fn move_on(
+    work: &mut [u8],
+    plan: &[u64; 80],
+    block: &[u8],
+    i: usize,
+    can: u64,
+    n: usize,
+    stand: Stand,
+    limit: usize,
+) -> Stand
+    requires { ⌜ Stands (length (now work)) limit (stand .half) (stand .start) (stand .count) × (long (slotsAt (now work) (stand .start) (stand .count)) ≡ false) × (stand .over ≡ false) ⌝ }
+    requires { ⌜ (n ≤ mostVariables) × (i < 4096) × Sound (now plan) × (recordBytes * i + recordBytes ≤ length (now block)) × Ready (now work) (now plan) (now block) i (stand .start) (stand .count) ⌝ }
+    ensures { λ r. ⌜ Moved (now (work .entry)) (now (work .exit)) limit (r .half) (r .start) (r .count) (r .over) (stepBy (now (plan .entry)) (now (block .entry)) i can n (slotsAt (now (work .entry)) (stand .start) (stand .count))) ⌝ }
+{
+    if can == 0 {
+        return stand;
+    }
+    let dst = SLOT_BYTES * limit - stand.half;
+    let out = advance(
+        work,
+        plan,
+        block,
+        i,
+        can,
+        n,
+        stand.start,
+        stand.count,
+        dst,
+        limit,
+    );
+    Stand {
+        half: dst,
+        start: dst,
+        count: out.total,
+        over: out.over,
+    }
+}
+
+// The readings but for the first ones, which are gone.
+fn without(stand: Stand, gone: usize) -> Stand
+    requires { ⌜ (gone ≤ stand .count) × (stand .start + slotBytes * stand .count < 9223372036854775808) ⌝ }
+    ensures { λ r. ⌜ r ≡ record { half = stand .half; start = stand .start + slotBytes * gone; count = stand .count - gone; over = stand .over } ⌝ }
+{
+    Stand {
+        half: stand.half,
+        start: stand.start + SLOT_BYTES * gone,
+        count: stand.count - gone,
+        over: stand.over,
+    }
+}
+
+// The variables whose own conditions hold of record i, if it is an event.
+fn can_at(plan: &[u64; 80], block: &[u8], i: usize, n: usize, c: usize) -> u64
+    requires { ⌜ Sound (now plan) × (n ≤ mostVariables) × (c ≤ mostConditions) × (recordBytes * i + recordBytes ≤ length (now block)) ⌝ }
+    ensures { λ r. ⌜ r ≡ canAt (now (plan .entry)) n c (now (block .entry)) i ⌝ }
+{
+    if is_event(block, i) {
+        return firing::can_fire(plan, n, c, block, i);
+    }
+    0
+}
+
+fn most(a: usize, b: usize) -> usize
+    ensures { λ r. ⌜ r ≡ max a b ⌝ }
+{
+    if a < b {
+        return b;
+    }
+    a
+}
+
+// ## The pass
+
+// The pass over a checked block: its answer, and what it reports in the result.
+fn pass(
+    p: Pattern,
+    plan: &[u64; 80],
+    block: &[u8],
+    limit: usize,
+    work: &mut [u8],
+    result: &mut [u8],
+) -> Answer
+    requires { ⌜ Prepared p (now plan) (now block) × (limit ≤ 256) × (slotBytes * limit + slotBytes * limit ≤ length (now work)) ⌝ }
+    ensures { λ r. ⌜ Ran p (now (block .entry)) limit (now (result .entry)) (now (result .exit)) r ⌝ }
+{
+    let full = numbers::weight(p.n) - 1;
+    let count = block.len() / RECORD_BYTES;
+    let mut stand = Stand {
+        half: 0,
+        start: 0,
+        count: 0,
+        over: false,
+    };
+    let mut tell = Tell {
+        used: 0,
+        readings: 0,
+        short: false,
+    };
+    let mut peak: usize = 0;
+    let mut i = 0;
+    while i < count {
+        let gone = count_gone(work, block, i, p.duration, stand.start, stand.count);
+        tell = close_all(
+            result,
+            work,
+            stand.start,
+            gone,
+            full,
+            mark_at(block, i),
+            tell,
+        );
+        if tell.short {
+            return records::refusal(11, 0);
+        }
+        let can = can_at(plan, block, i, p.n, p.c);
+        stand = move_on(work, plan, block, i, can, p.n, without(stand, gone), limit);
+        if stand.over {
+            return records::refusal(9, i as u32);
+        }
+        if limit < stand.count {
+            return records::refusal(10, i as u32);
+        }
+        peak = most(peak, stand.count);
+        i += 1;
+    }
+    tell = close_all(result, work, stand.start, stand.count, full, END_MARK, tell);
+    if tell.short {
+        return records::refusal(11, 0);
+    }
+    Answer {
+        code: 0,
+        place: 0,
+        used: (tell.used / 2) as u64,
+        readings: tell.readings as u64,
+        peak: peak as u32,
+    }
+}
+
+// Row 8 of the refusals.
+fn is_limit_broken(limit: u32, lent: usize) -> bool
+    ensures { λ r. ⌜ r ≡ limitBroken limit lent ⌝ }
+{
+    if limit < 1 {
+        return true;
+    }
+    if MOST_LIVE < limit {
+        return true;
+    }
+    lent < WORK_PER_READING * limit as usize
+}
+
+// Clears what a call leaves clear: working memory, and of the result all that holds no report.
+fn finish(answer: Answer, work: &mut [u8], result: &mut [u8]) -> Answer
+    requires { ⌜ (answer .code ≡ 0 → 2 * answer .used ≤ length (now result)) ⌝ }
+    ensures { λ r. ⌜ (r ≡ answer) × (now (work .exit) ≡ replicate (length (now (work .entry))) 0) × Finished answer (now (result .entry)) (now (result .exit)) ⌝ }
+{
+    slots::clear(work);
+    if answer.code != 0 {
+        slots::clear(result);
+        return answer;
+    }
+    slots::clear_from(result, 2 * answer.used as usize);
+    answer
+}
+
+// The forward pass: checks the pattern, the block and the limit, then reads the records once.
+pub fn forward(
+    pattern: &[u8],
+    block: &[u8],
+    limit: u32,
+    work: &mut [u8],
+    result: &mut [u8],
+) -> Answer
+    ensures { λ r. ⌜ ForwardCall (now (pattern .entry)) (now (block .entry)) limit (length (now (work .entry))) (length (now (result .entry))) r (now (work .exit)) (now (result .exit)) ⌝ }
+{
+    let checked = patterns::check_pattern(pattern);
+    if checked.code != 0 {
+        return finish(records::refusal(checked.code, checked.place), work, result);
+    }
+    let judged = records::check_block(block);
+    if judged.code != 0 {
+        return finish(judged, work, result);
+    }
+    if is_limit_broken(limit, work.len()) {
+        return finish(records::refusal(8, 0), work, result);
+    }
+    let plan = firing::plan_of(checked.pattern);
+    let answer = pass(checked.pattern, &plan, block, limit as usize, work, result);
+    finish(answer, work, result)
+}
