@@ -1,0 +1,34 @@
+-- The answer of a C call: one 64-bit number, high field first: code 8, place or used 24, readings 16, peak 16.
+use mathlib.Core.Bool.{true, false}
+use Prim.Native.Nat.{ℕ, _+_, _-_, _*_, _^_, min}
+use lib.Dec.{eqb}
+use Rattle.records.specs.declared.Answer.{Answer}
+use Rattle.numbers.specs.Numbers.{field}
+
+-- a field of so many bits stops at its largest
+abbrev pub capped : ℕ → ℕ → ℕ
+capped bits x = min x (2 ^ bits - 1)
+
+-- place with a refusal, used with success
+unfoldable pub placeOrUsed : Answer → ℕ
+placeOrUsed a = elim (eqb (a .code) 0) [ true ↦ a .used | false ↦ a .place ]
+
+unfoldable pub packedAnswer : Answer → ℕ
+packedAnswer a =
+    capped 8 (a .code) * 2 ^ 56
+    + capped 24 (placeOrUsed a) * 2 ^ 32
+    + capped 16 (a .readings) * 2 ^ 16
+    + capped 16 (a .peak)
+
+-- the fields of a C answer
+abbrev pub codeIn : ℕ → ℕ
+codeIn word = field 8 56 word
+
+abbrev pub placeOrUsedIn : ℕ → ℕ
+placeOrUsedIn word = field 24 32 word
+
+abbrev pub readingsIn : ℕ → ℕ
+readingsIn word = field 16 16 word
+
+abbrev pub peakIn : ℕ → ℕ
+peakIn word = field 16 0 word
