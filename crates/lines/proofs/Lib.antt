@@ -1,0 +1,6 @@
+pub mod Put
+pub mod Digits
+pub mod Lines
+pub mod Answers
+pub mod Unpacked
+pub mod Told

@@ -1,0 +1,63 @@
+-- `lines::put_refused` meets its contract: the word, two numbers, line feed. Assumes nothing.
+use mathlib.Core.Path.{_∙_}
+use native.Mathlib.Omega.{arith}
+use lib.ListN.{length-set}
+use borrow.Author.Needs.{needs}
+use Rattle.lines.specs.Text.{refusedText}
+use Rattle.lines.proofs.Put.{put-byte, put-then}
+use Rattle.lines.proofs.put_refused.Statement.{statement}
+use Rattle.lines.proofs.put_refused.Tie as tie
+
+slice-aggregate-put-word : tie.Need-slice-aggregate-put-word
+slice-aggregate-put-word c = search needs
+
+put-word-requires : tie.Need-put-word-requires
+put-word-requires c κs = search needs
+
+cast-put-after : tie.Need-cast-put-after
+cast-put-after c = search needs
+
+put-after-requires : tie.Need-put-after-requires
+put-after-requires c κs = search needs
+
+cast-put-after-2 : tie.Need-cast-put-after-2
+cast-put-after-2 c = search needs
+
+put-after-requires-2 : tie.Need-put-after-requires-2
+put-after-requires-2 c κs = search needs
+
+slice-write-text : tie.Need-slice-write-text
+slice-write-text c = search needs
+
+add-result : tie.Need-add-result
+add-result c = search needs
+
+same-length : tie.Need-same-length
+same-length c =
+    let p = c .before .before .put-after2 in
+    let n = c .before .before .before .before .before .before .before .put-after in
+    let w = c .before .before .before .before .before .before .before .before .before .before .before .before .put-word in
+    simp length-set (p .ensures .0 .kept ∙ n .ensures .0 .kept ∙ w .ensures .kept)
+
+returns : tie.Need-returns
+unfolding refusedText
+returns c =
+    let p = c .before .before .put-after2 in
+    let n = c .before .before .before .before .before .before .before .put-after in
+    let w = c .before .before .before .before .before .before .before .before .before .before .before .before .put-word in
+    (put-then (put-then (put-then (w .ensures) (n .ensures .0)) (p .ensures .0)) (put-byte (p .last .0) (p .result) 10 (omega arith)), omega arith)
+
+pub put-refused-spec : {M : Type 1} → statement M
+put-refused-spec =
+    tie.close
+    (tie.spec
+    slice-aggregate-put-word
+    put-word-requires
+    cast-put-after
+    put-after-requires
+    cast-put-after-2
+    put-after-requires-2
+    slice-write-text
+    add-result
+    same-length
+    returns)

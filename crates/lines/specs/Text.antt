@@ -1,0 +1,89 @@
+-- What the match program writes: a line for each reported reading, and last how the call ended. Text is a list of ASCII codes.
+use mathlib.Core.Bool.{true, false}
+use mathlib.Core.List.{List, [], _∷_, _++_}
+use Prim.Native.Nat.{ℕ, zero, suc, _+_, _*_, _/_, _%_}
+use lib.Dec.{ltb, eqb}
+use Rattle.records.specs.declared.Answer.{Answer}
+use Rattle.rule.specs.Rule.{Binding, Reading, Line}
+
+abbrev pub lineFeed : ℕ
+lineFeed = 10
+
+abbrev pub space : ℕ
+space = 32
+
+abbrev pub atSign : ℕ
+atSign = 64
+
+-- the code of a digit
+abbrev pub glyph : ℕ → ℕ
+glyph digit = 48 + digit
+
+-- the decimal digits of a number that has at most so many, the most significant first
+unfoldable pub digits : ℕ → ℕ → List ℕ
+digits zero n = []
+digits (suc places) n =
+    elim (ltb n 10) [
+      | true ↦ glyph n ∷ []
+      | false ↦ digits places (n / 10) ++ (glyph (n % 10) ∷ [])
+    ]
+
+-- a number of 64 bits has at most 20 digits
+abbrev pub mostDigits : ℕ
+mostDigits = 20
+
+unfoldable pub decimal : ℕ → List ℕ
+decimal n = digits mostDigits n
+
+-- a number after a sign
+abbrev pub after : ℕ → ℕ → List ℕ
+after sign n = sign ∷ decimal n
+
+-- variable@record, after a space
+unfoldable pub bindingText : Binding → List ℕ
+bindingText b = after space (b .variable) ++ after atSign (b .at)
+
+-- the oldest binding first; a reading has its latest first
+unfoldable pub readingText : Reading → List ℕ
+readingText [] = []
+readingText (b ∷ bs) = readingText bs ++ bindingText b
+
+-- Each line: mark, then variable@record.
+unfoldable pub lineText : Line → List ℕ
+lineText x = decimal (x .mark) ++ readingText (x .reading) ++ (lineFeed ∷ [])
+
+unfoldable pub reportText : List Line → List ℕ
+reportText [] = []
+reportText (x ∷ l) = lineText x ++ reportText l
+
+abbrev pub okWord : List ℕ
+okWord = 111 ∷ 107 ∷ []
+
+abbrev pub refusedWord : List ℕ
+refusedWord = 114 ∷ 101 ∷ 102 ∷ 117 ∷ 115 ∷ 101 ∷ 100 ∷ []
+
+-- Last: ok, readings, used, peak;
+unfoldable pub okText : Answer → List ℕ
+okText a = okWord ++ after space (a .readings) ++ after space (a .used) ++ after space (a .peak) ++ (lineFeed ∷ [])
+
+-- or `refused`, number, place, alone.
+unfoldable pub refusedText : Answer → List ℕ
+refusedText a = refusedWord ++ after space (a .code) ++ after space (a .place) ++ (lineFeed ∷ [])
+
+-- all that is written of an answer and of the lines of its report
+unfoldable pub answerText : Answer → List Line → List ℕ
+answerText a l = elim (eqb (a .code) 0) [ true ↦ reportText l ++ okText a | false ↦ refusedText a ]
+
+-- ## Room for the text
+
+-- a number of a result is a head, at most `15` and its line feed, or a binding, at most ` 15@4095`
+abbrev pub numberRoom : ℕ
+numberRoom = 8
+
+-- the last line has at most a word and three numbers
+abbrev pub lastRoom : ℕ
+lastRoom = 70
+
+-- a result of so many bytes
+abbrev pub textRoom : ℕ → ℕ
+textRoom lent = numberRoom * (lent / 2) + lastRoom

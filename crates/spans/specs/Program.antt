@@ -1,0 +1,56 @@
+-- What the match program writes on the bytes of its standard input.
+use mathlib.Core.Path.{_≡_}
+use mathlib.Core.List.{List}
+use Prim.Native.Nat.{ℕ, _+_, _*_, _≤_, _<_}
+use lib.ListN.{length, take, drop}
+use Rattle.numbers.specs.Numbers.{number}
+use Rattle.records.specs.declared.Answer.{Answer}
+use Rattle.records.specs.Records.{recordBytes}
+use Rattle.records.specs.Blocks.{mostRecords, refused}
+use Rattle.rule.specs.Rule.{Line, Report}
+use Rattle.rule.specs.Calls.{patternIn, blockIn, workPerReading, mostLive, ForwardCall}
+use Rattle.lines.specs.Text.{answerText}
+
+-- pattern length (two bytes, high first), pattern, block to the end
+abbrev pub lengthBytes : ℕ
+lengthBytes = 2
+
+abbrev pub patternLength : List ℕ → ℕ
+patternLength input = number input 0 lengthBytes
+
+abbrev pub patternBytes : List ℕ → List ℕ
+patternBytes input = take (patternLength input) (drop lengthBytes input)
+
+abbrev pub blockBytes : List ℕ → List ℕ
+blockBytes input = drop (lengthBytes + patternLength input) input
+
+-- L 256 and a result slice of 32,768 numbers
+abbrev pub workBytes : ℕ
+workBytes = workPerReading * mostLive
+
+abbrev pub resultBytes : ℕ
+resultBytes = 2 * 32768
+
+-- the answer, and the result after it
+pub data Answered (input : List ℕ) (answer : Answer) (result : List ℕ) : Type 0 where
+  -- too little for the length or pattern is 1; a length that is cut short is short of its pattern too
+  short : length input < lengthBytes + patternLength input → answer ≡ refused 1 0 → Answered input answer result
+  called :
+      lengthBytes + patternLength input ≤ length input → (work : List ℕ)
+      → ForwardCall (patternBytes input) (blockBytes input) mostLive workBytes resultBytes answer work result
+      → Answered input answer result
+
+-- the text: of a refusal its one line, else the lines of the report and the last one
+pub record Program (input text : List ℕ) : Type 0 where
+  pub answer : Answer
+  pub result : List ℕ
+  pub lines : List Line
+  pub answered : Answered input answer result
+  pub report :
+      answer .code ≡ 0
+      → Report (patternIn (patternBytes input)) (blockIn (blockBytes input)) (length (blockIn (blockBytes input))) lines
+  pub written : text ≡ answerText answer lines
+
+-- The program reads so many bytes at most: the length, the longest pattern, and one byte more than a block may have.
+abbrev pub inputRoom : ℕ
+inputRoom = lengthBytes + 65535 + (recordBytes * mostRecords + 1)
