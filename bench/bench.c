@@ -1,0 +1,145 @@
+/*
+ * bench: times the library's two passes against the yardstick's on five workloads, and measures the stack of a call.
+ * Both must give the same answer and the same bytes on each. Times are the least of several rounds, the two taken in
+ * turn; the stack is painted before a call, and what the call overwrote is counted.
+ */
+#define _DEFAULT_SOURCE
+#include <stdbool.h>
+#include <stdio.h>
+#include <stdlib.h>
+#include <string.h>
+#include <sys/mman.h>
+#include <time.h>
+#include <ucontext.h>
+
+#include "spaldep.h"
+#include "workloads.h"
+#include "yardstick.h"
+
+enum { ROUNDS = 60, LIMIT = 256, STACK_BYTES = 4 << 20, PAINT = 0xa5 };
+static const double ROUND_SECONDS = 0.0015;
+
+typedef uint64_t (*pass)(const struct workload *w, uint8_t *result);
+
+static uint8_t work[SPALDEP_WORK_BYTES(LIMIT)];
+
+static uint64_t library_forward(const struct workload *w, uint8_t *result) {
+  return spaldep_forward(w->pattern, w->pattern_len, w->block, w->block_len, LIMIT, work, sizeof work, result,
+                         SPALDEP_RESULT_BYTES_MAX);
+}
+
+static uint64_t plain_forward(const struct workload *w, uint8_t *result) {
+  return yardstick_forward(w->pattern, w->pattern_len, w->block, w->block_len, LIMIT, work, sizeof work, result,
+                           SPALDEP_RESULT_BYTES_MAX);
+}
+
+static uint64_t library_starts(const struct workload *w, uint8_t *result) {
+  return spaldep_start_by_start(w->pattern, w->pattern_len, w->block, w->block_len, result, SPALDEP_RESULT_BYTES_MAX);
+}
+
+static uint64_t plain_starts(const struct workload *w, uint8_t *result) {
+  return yardstick_start_by_start(w->pattern, w->pattern_len, w->block, w->block_len, result, SPALDEP_RESULT_BYTES_MAX);
+}
+
+/* ---- times ---- */
+
+/* Of the processor, so that other work on the machine counts little. */
+static double seconds(void) {
+  struct timespec t;
+  clock_gettime(CLOCK_PROCESS_CPUTIME_ID, &t);
+  return (double)t.tv_sec + 1e-9 * (double)t.tv_nsec;
+}
+
+/* Seconds a call, over `calls` calls. */
+static double round_of(pass run, const struct workload *w, unsigned calls) {
+  static uint8_t result[SPALDEP_RESULT_BYTES_MAX];
+  double from = seconds();
+  for (unsigned i = 0; i < calls; i++) run(w, result);
+  return (seconds() - from) / calls;
+}
+
+/* The least time a call of each of two passes, in seconds. */
+static void time_both(pass library, pass plain, const struct workload *w, double *of_library, double *of_plain) {
+  double once = round_of(plain, w, 1);
+  once = once > 1e-7 ? once : 1e-7;
+  unsigned calls = once < ROUND_SECONDS ? (unsigned)(ROUND_SECONDS / once) : 1;
+  *of_library = *of_plain = 1e9;
+  for (unsigned i = 0; i < ROUNDS; i++) {
+    double x = round_of(library, w, calls), y = round_of(plain, w, calls);
+    if (x < *of_library) *of_library = x;
+    if (y < *of_plain) *of_plain = y;
+  }
+}
+
+/* One line of the table; false where the two do not agree. */
+static bool compare_times(const char *name, pass library, pass plain, const struct workload *w) {
+  static uint8_t result[SPALDEP_RESULT_BYTES_MAX], other[SPALDEP_RESULT_BYTES_MAX];
+  double of_library, of_plain;
+  uint64_t answer = library(w, result);
+  if (answer != plain(w, other) || memcmp(result, other, sizeof result) != 0 || spaldep_code(answer) != 0) {
+    printf("%-15s %-24s FAILED: the library and the yardstick differ, or refuse with %u at %u\n", name, w->name,
+           spaldep_code(answer), spaldep_place(answer));
+    return false;
+  }
+  time_both(library, plain, w, &of_library, &of_plain);
+  printf("%-15s %-24s %8u %6u %10.1f %10.1f %7.2f\n", name, w->name, spaldep_readings(answer), spaldep_peak(answer),
+         1e6 * of_library, 1e6 * of_plain, of_library / of_plain);
+  return true;
+}
+
+/* ---- stack ---- */
+
+static ucontext_t outside, inside;
+static pass painted_pass;
+static const struct workload *painted_workload;
+
+static void on_painted_stack(void) {
+  static uint8_t result[SPALDEP_RESULT_BYTES_MAX];
+  if (painted_pass != NULL) painted_pass(painted_workload, result);
+}
+
+/* Bytes of a fresh stack that a call, or no call where `run` is null, overwrites. */
+static size_t painted(pass run, const struct workload *w) {
+  static uint8_t *stack;
+  if (stack == NULL) stack = mmap(NULL, STACK_BYTES, PROT_READ | PROT_WRITE, MAP_PRIVATE | MAP_ANONYMOUS, -1, 0);
+  if (stack == MAP_FAILED) abort();
+  memset(stack, PAINT, STACK_BYTES);
+  painted_pass = run;
+  painted_workload = w;
+  getcontext(&inside);
+  inside.uc_stack.ss_sp = stack;
+  inside.uc_stack.ss_size = STACK_BYTES;
+  inside.uc_link = &outside;
+  makecontext(&inside, on_painted_stack, 0);
+  swapcontext(&outside, &inside);
+  size_t clean = 0;
+  while (clean < STACK_BYTES && stack[clean] == PAINT) clean++;
+  return STACK_BYTES - clean;
+}
+
+static void print_stack(const struct workload *w) {
+  size_t without = painted(NULL, w);
+  printf("%-24s %10zu %10zu %10zu %10zu\n", w->name, painted(library_forward, w) - without,
+         painted(library_starts, w) - without, painted(plain_forward, w) - without, painted(plain_starts, w) - without);
+}
+
+int main(void) {
+  static struct workload w;
+  bool all = true;
+  printf("%-15s %-24s %8s %6s %10s %10s %7s\n", "pass", "workload", "readings", "peak", "library us", "plain C us",
+         "ratio");
+  for (unsigned i = 0; i < WORKLOADS; i++) {
+    make_workload(i, &w);
+    all = compare_times("forward", library_forward, plain_forward, &w) && all;
+  }
+  for (unsigned i = 0; i < WORKLOADS; i++) {
+    make_workload(i, &w);
+    all = compare_times("start-by-start", library_starts, plain_starts, &w) && all;
+  }
+  printf("\nstack of a call, bytes; library forward, start-by-start, then plain C\n");
+  for (unsigned i = 0; i <= WORKLOADS; i++) {
+    make_workload(i, &w);
+    print_stack(&w);
+  }
+  return all ? 0 : 1;
+}

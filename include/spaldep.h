@@ -1,0 +1,200 @@
+/*
+ * Spaldep: picks replay spans from a block of records. The C calls of libspaldep.a.
+ *
+ * A pattern is a sequence of sets of events: any order inside a set, the sets one after another, all within a
+ * number of cycles. A block is 0 to 4,096 records of 16 bytes, with marked gaps. A reading binds the pattern's
+ * variables to records; a full reading that closes is reported. Two passes report the same readings: the forward
+ * pass goes through the records once with a limit of live readings, the start-by-start pass goes on from each
+ * record in turn and has no limit.
+ *
+ * Link with libspaldep.a (x86-64). No call needs another first, and none has anything to set up or to free.
+ *
+ * What holds of every call
+ *
+ *   Memory      All memory is the caller's, lent for the length of the call: the library allocates none, frees none
+ *               and keeps no pointer. A slice is a pointer and its length in bytes. `const` slices are only read.
+ *               No slice needs to be aligned.
+ *   Pointers    must not be null, also where the length is 0; any address in the program serves for length 0.
+ *   Overlap     Slices that are written (listing, work, result) must not overlap any other slice of the same call.
+ *               The pattern and the block may overlap each other.
+ *   State       There is none: the same bytes get the same answer. Calls may run side by side, in threads or from
+ *               several cores, as long as no slice that one of them writes overlaps a slice of another.
+ *   Input       Any bytes at all get an answer, and every call ends: nothing has to be checked first. The number of
+ *               readings of a pattern decides how long a pass takes; only the forward pass has a limit to it.
+ *   Stack       SPALDEP_STACK_FORWARD bytes do for every call but spaldep_start_by_start, which needs up to
+ *               SPALDEP_STACK_START_BY_START.
+ *
+ * The answer is one 64-bit number, taken apart by the functions below:
+ *
+ *   spaldep_code      0: done. Else the number of a refusal, SPALDEP_REFUSED_..
+ *   spaldep_place     of a refusal: the variable, condition or record that it is about, from 0; otherwise 0
+ *   spaldep_used      of success: how many numbers, steps or records, as each call says; 0 with a refusal
+ *   spaldep_readings  of a pass that succeeded: the readings reported; 0 otherwise
+ *   spaldep_peak      of a forward pass that succeeded: the most readings live after any record; 0 otherwise
+ *
+ * Where several refusals hold, the one that comes first in this order is given: a pattern under 8 bytes, its header,
+ * its length, its first bad variable, its first bad condition; the block's length, its first bad record; limit and
+ * lent memory; then what the pass itself meets.
+ */
+#ifndef SPALDEP_H
+#define SPALDEP_H
+
+#include <stddef.h>
+#include <stdint.h>
+
+#ifdef __cplusplus
+extern "C" {
+#endif
+
+/* The refusals, each with what its place is. */
+enum {
+  SPALDEP_DONE = 0,
+  SPALDEP_REFUSED_PATTERN_LENGTH = 1,  /* pattern under 8 bytes, or not 8 + n + 8c; place 0 */
+  SPALDEP_REFUSED_HEADER = 2,          /* edition not 1, n not 1 to 12, c over 32, or zero bits set; place 0 */
+  SPALDEP_REFUSED_VARIABLE = 3,        /* a variable's byte breaks its rules; place: the first such variable */
+  SPALDEP_REFUSED_CONDITION = 4,       /* a condition breaks its rules; place: the first such condition */
+  SPALDEP_REFUSED_BLOCK_LENGTH = 5,    /* block not whole records, or over 4,096 of them; place 0 */
+  SPALDEP_REFUSED_RECORD = 6,          /* kind 2 or 3, last byte not 0, or a broken gap; place: the record */
+  SPALDEP_REFUSED_TIME = 7,            /* a time not above the one before; place: the record */
+  SPALDEP_REFUSED_LIMIT_OR_MEMORY = 8, /* limit not 1 to 256, work under 160 bytes a reading of it, or a result
+                                          slice of odd length or over 65,536 bytes; place 0 */
+  SPALDEP_REFUSED_BINDINGS = 9,        /* a reading would take a 33rd binding; place: the first such record */
+  SPALDEP_REFUSED_LIVE = 10,           /* more readings live than the limit; place: the record after which */
+  SPALDEP_REFUSED_RESULT_ROOM = 11,    /* the report needs more numbers than the result slice has; place 0 */
+  SPALDEP_REFUSED_LISTING_ROOM = 12,   /* the automaton has more steps than the listing slice has; place 0 */
+  SPALDEP_REFUSED_BOUND_TWICE = 13     /* one record bound twice in one reading; place: the record. It has a
+                                          number and does not arise. */
+};
+
+/* How a reported reading was closed: spaldep_mark. */
+enum {
+  SPALDEP_MARK_WINDOW = 1, /* by a record more than the duration after its first */
+  SPALDEP_MARK_END = 2,    /* by the end of the block */
+  SPALDEP_MARK_GAP = 3     /* by a gap */
+};
+
+/* Sizes. Slices may be shorter or longer than these; each call says what it then does. */
+#define SPALDEP_RECORD_BYTES 16u                          /* one record of a block */
+#define SPALDEP_BLOCK_RECORDS 4096u                       /* the most records of a block */
+#define SPALDEP_PATTERN_BYTES_MAX 276u                    /* the longest pattern: 8 + 12 + 8 * 32 */
+#define SPALDEP_LIMIT_MAX 256u                            /* the highest limit of the forward pass */
+#define SPALDEP_WORK_BYTES(limit) ((size_t)160 * (limit)) /* working memory that a limit needs */
+#define SPALDEP_RESULT_BYTES_MAX 65536u                   /* the longest result slice: 32,768 numbers */
+#define SPALDEP_STEP_BYTES 8u                             /* one step of a listing */
+#define SPALDEP_STEPS_MAX 768u                            /* the most steps that an automaton has */
+#define SPALDEP_BINDINGS_MAX 32u                          /* the most bindings of a reading */
+
+/* Stack that a call needs at most, in bytes: what bench/run measured, rounded up. */
+#define SPALDEP_STACK_FORWARD 4096u
+#define SPALDEP_STACK_START_BY_START 135168u
+
+/*
+ * Checks a pattern of pattern_len bytes.
+ *
+ *   Header   edition 4 bits (1), n 4 (variables, 1 to 12), c 8 (conditions, 0 to 32), zero 8, duration 40
+ *   Then     n bytes, one a variable: set number 4 bits, group flag 1, zero 3. Set numbers begin at 1, never fall,
+ *            rise by one at most and reach 8 at most; a set has at most 6 variables.
+ *   Then     8 bytes a condition: variable 4 bits, attribute 3, operator 3, form 1, second variable 4, second
+ *            attribute 3, zero 14, constant 32. Form 0 compares with the constant (second variable and attribute 0),
+ *            form 1 with the second variable's attribute (constant 0). Attributes: 0 core, 1 type, 2 class, 3 slot,
+ *            4 amount. Operators: 0 =, 1 <, 2 <=, 3 >, 4 >=. The constant is signed beside amount only.
+ *
+ * All fields are packed most significant bit first.
+ *
+ * Answers  0 where the pattern is in order; else a refusal 1 to 4. used, readings and peak are 0.
+ */
+uint64_t spaldep_check_pattern(const uint8_t *pattern, size_t pattern_len);
+
+/*
+ * Checks a block of block_len bytes: 0 to 4,096 records of 16 bytes, packed most significant bit first: kind 2 bits
+ * (0 event, 1 gap), core 6, type 8, time in cycles 40, slot 32, amount 32 (two's complement), zero 8. A gap has core,
+ * type and amount 0, and its slot is the number of entries lost, from 1. Each record's time is above the one before.
+ *
+ * Answers  used: the count of records; or a refusal 5 to 7. readings and peak are 0.
+ */
+uint64_t spaldep_check_block(const uint8_t *block, size_t block_len);
+
+/*
+ * Lists the automaton of a pattern into `listing`, which holds listing_len / 8 steps: 8 bytes a step, high byte
+ * first, in the order of state, then variable. SPALDEP_STEPS_MAX steps are enough for every pattern.
+ *
+ * Answers  used: the count of steps; or a refusal 1 to 4 of the pattern, or 12. readings and peak are 0.
+ * Memory   After success every byte behind the steps is 0; after a refusal the whole slice is.
+ */
+uint64_t spaldep_list_automaton(const uint8_t *pattern, size_t pattern_len, uint8_t *listing, size_t listing_len);
+
+/*
+ * The forward pass: one way through the block, with at most `limit` readings live after a record.
+ *
+ *   limit    1 to 256
+ *   work     working memory, at least SPALDEP_WORK_BYTES(limit) bytes. What it holds before does not matter.
+ *   result   takes the report as 16-bit numbers, two bytes each, high byte first: of even length, at most
+ *            SPALDEP_RESULT_BYTES_MAX bytes. For each reading reported, in the order of first record and then of
+ *            the smaller variable where two first differ: a head (spaldep_mark, spaldep_bindings), then each binding
+ *            (spaldep_variable, spaldep_record), records rising.
+ *
+ * Answers  used: the 16-bit numbers written; readings: the readings reported; peak: the most readings live after any
+ *          record. Or a refusal 1 to 8; or, at the earliest record that gives one, 9, 10 or 11.
+ * Memory   work is all 0 after every answer, whatever its length. After success every byte of result behind the
+ *          numbers written is 0; after a refusal the whole slice is, whatever its length.
+ */
+uint64_t spaldep_forward(const uint8_t *pattern, size_t pattern_len, const uint8_t *block, size_t block_len,
+                         uint32_t limit, uint8_t *work, size_t work_len, uint8_t *result, size_t result_len);
+
+/*
+ * The start-by-start pass: all readings that begin at a record, then those of the next. It reports the same readings
+ * as the forward pass, in the same numbers. It has no limit of live readings, and a pattern whose steps branch often
+ * can make it take very long.
+ *
+ *   result   as for spaldep_forward
+ *
+ * Answers  used: the 16-bit numbers written; readings: the readings reported; peak 0. Or a refusal 1 to 8 (8 for the
+ *          result slice alone); or 9, with the least record of the whole block; or 11.
+ * Memory   After success every byte of result behind the numbers written is 0; after a refusal the whole slice is.
+ */
+uint64_t spaldep_start_by_start(const uint8_t *pattern, size_t pattern_len, const uint8_t *block, size_t block_len,
+                                uint8_t *result, size_t result_len);
+
+/* The answer's fields. From the high end: code 8 bits, place or used 24, readings 16, peak 16. */
+static inline unsigned spaldep_code(uint64_t answer) { return (unsigned)(answer >> 56); }
+static inline uint32_t spaldep_place(uint64_t answer) {
+  return answer >> 56 == 0 ? 0 : (uint32_t)(answer >> 32 & 0xffffff);
+}
+static inline uint32_t spaldep_used(uint64_t answer) {
+  return answer >> 56 == 0 ? (uint32_t)(answer >> 32 & 0xffffff) : 0;
+}
+static inline uint32_t spaldep_readings(uint64_t answer) { return (uint32_t)(answer >> 16 & 0xffff); }
+static inline uint32_t spaldep_peak(uint64_t answer) { return (uint32_t)(answer & 0xffff); }
+
+/* The 16-bit number `at`, from 0, of a result slice. */
+static inline uint16_t spaldep_number(const uint8_t *result, size_t at) {
+  return (uint16_t)(result[2 * at] << 8 | result[2 * at + 1]);
+}
+
+/* A head: how the reading was closed (SPALDEP_MARK_..), and how many bindings follow, 1 to 32. */
+static inline unsigned spaldep_mark(uint16_t head) { return (unsigned)head >> 12; }
+static inline unsigned spaldep_bindings(uint16_t head) { return head & 0x3fu; }
+
+/* A binding: the variable, and the number of the record bound to it. */
+static inline unsigned spaldep_variable(uint16_t binding) { return (unsigned)binding >> 12; }
+static inline unsigned spaldep_record(uint16_t binding) { return binding & 0xfffu; }
+
+/* The step `at`, from 0, of a listing slice. */
+static inline uint64_t spaldep_step(const uint8_t *listing, size_t at) {
+  uint64_t step = 0;
+  for (size_t i = 0; i < SPALDEP_STEP_BYTES; i++) step = step << 8 | listing[SPALDEP_STEP_BYTES * at + i];
+  return step;
+}
+
+/* A step: the state that it leaves (bit j: variable j is bound), the variable it binds, 1 where the event must come
+   later than everything bound, and the conditions it tests (bit i: condition i). */
+static inline unsigned spaldep_step_state(uint64_t step) { return (unsigned)(step >> 52); }
+static inline unsigned spaldep_step_variable(uint64_t step) { return (unsigned)(step >> 48 & 15); }
+static inline unsigned spaldep_step_order_mark(uint64_t step) { return (unsigned)(step >> 47 & 1); }
+static inline uint32_t spaldep_step_conditions(uint64_t step) { return (uint32_t)step; }
+
+#ifdef __cplusplus
+}
+#endif
+
+#endif

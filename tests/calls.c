@@ -1,0 +1,206 @@
+/* Each call of the library beside the reference's: see calls.h. */
+#define _DEFAULT_SOURCE
+#include "calls.h"
+
+#include <inttypes.h>
+#include <signal.h>
+#include <stdio.h>
+#include <string.h>
+#include <unistd.h>
+
+#include "lent.h"
+#include "reference.h"
+#include "spaldep.h"
+#include "tally.h"
+
+enum { RESULT_ROOM = 65536 + 64, WORK_ROOM = 160 * 256 + 4096, LISTING_ROOM = 8 * 900, CALL_SECONDS = 120 };
+
+/* ---- failures ---- */
+
+struct test_case now;
+static uint64_t now_seed;
+static const char *now_call = "none";
+static bool now_failed;
+
+void fail(const char *what) {
+  now_failed = true;
+  if (tally.failed < 10)
+    printf("FAILED: %s %s; compare case 0x%016" PRIx64 " (%s)\n", now_call, what, now_seed, now.shape);
+}
+
+static void fail_answers(uint64_t library, uint64_t reference) {
+  char text[160];
+  snprintf(text, sizeof text, "answers 0x%016" PRIx64 " where the reference answers 0x%016" PRIx64, library, reference);
+  fail(text);
+}
+
+/* A crash or a call that does not end: say where, and end. */
+static void stopped(int sig) {
+  printf("FAILED: %s ended by signal %d; compare case 0x%016" PRIx64 "\n", now_call, sig, now_seed);
+  printf("%" PRIu64 " passed, %" PRIu64 " failed\n", tally.passed, tally.failed + 1);
+  fflush(stdout);
+  _exit(1);
+}
+
+void begin_case(uint64_t seed) {
+  now_seed = seed;
+  now_failed = false;
+}
+
+void end_case(void) {
+  if (now_failed)
+    tally.failed++;
+  else
+    tally.passed++;
+}
+
+/* ---- calls ---- */
+
+static struct lent lent_pattern, lent_block, lent_work, lent_result, lent_listing;
+static uint8_t reference_result[RESULT_ROOM], reference_work[WORK_ROOM], reference_listing[LISTING_ROOM];
+
+/* The byte that lent memory holds before a call. */
+static uint8_t filled(void) { return (uint8_t)(now_seed >> 8 | 1); }
+
+static void lend_input(int call) {
+  now_call = call_names[call];
+  lent_out(&lent_pattern, now.pattern, 0, now.pattern_len);
+  lent_out(&lent_block, now.block, 0, now.block_len);
+  alarm(CALL_SECONDS);
+}
+
+static void same_bytes(const char *what, const struct lent *library, const uint8_t *reference) {
+  if (!lent_whole(library)) fail("writes in front of a slice");
+  if (memcmp(library->bytes, reference, library->length) != 0) fail(what);
+}
+
+static void same_answer(int call, uint64_t library, uint64_t reference) {
+  tally.calls[call]++;
+  tally.codes[call][library >> 56]++;
+  if (library != reference) fail_answers(library, reference);
+  same_bytes("changes the pattern", &lent_pattern, now.pattern);
+  same_bytes("changes the block", &lent_block, now.block);
+}
+
+uint64_t compare_check_pattern(void) {
+  lend_input(CALL_PATTERN);
+  uint64_t reference = reference_check_pattern(now.pattern, now.pattern_len);
+  same_answer(CALL_PATTERN, spaldep_check_pattern(lent_pattern.bytes, now.pattern_len), reference);
+  return reference;
+}
+
+uint64_t compare_check_block(void) {
+  lend_input(CALL_BLOCK);
+  uint64_t reference = reference_check_block(now.block, now.block_len);
+  same_answer(CALL_BLOCK, spaldep_check_block(lent_block.bytes, now.block_len), reference);
+  return reference;
+}
+
+uint64_t compare_listing(size_t listing_len) {
+  lend_input(CALL_LISTING);
+  lent_out(&lent_listing, NULL, filled(), listing_len);
+  memset(reference_listing, 0x5a, listing_len);
+  uint64_t reference = reference_list_automaton(now.pattern, now.pattern_len, reference_listing, listing_len);
+  uint64_t library = spaldep_list_automaton(lent_pattern.bytes, now.pattern_len, lent_listing.bytes, listing_len);
+  same_answer(CALL_LISTING, library, reference);
+  same_bytes("leaves another listing", &lent_listing, reference_listing);
+  if (spaldep_code(library) == 0 && spaldep_used(library) == listing_len / 8) tally.met[MET_LISTING_FULL]++;
+  return reference;
+}
+
+static void count_report(const uint8_t *result, uint64_t answer, size_t result_len) {
+  bool marks[16] = {false}, long_one = false;
+  uint32_t used = spaldep_used(answer);
+  tally.met[MET_LONGEST_RESULT_SHORT] += spaldep_code(answer) == SPALDEP_REFUSED_RESULT_ROOM && result_len == 65536;
+  if (spaldep_code(answer) != 0) return;
+  for (uint32_t at = 0; at < used; at += 1 + spaldep_bindings(spaldep_number(result, at))) {
+    marks[spaldep_mark(spaldep_number(result, at))] = true;
+    long_one = long_one || spaldep_bindings(spaldep_number(result, at)) == 32;
+  }
+  tally.met[MET_MARK_WINDOW] += marks[1];
+  tally.met[MET_MARK_END] += marks[2];
+  tally.met[MET_MARK_GAP] += marks[3];
+  tally.met[MET_32_BINDINGS] += long_one;
+  tally.met[MET_RESULT_FULL] += used > 0 && used == result_len / 2;
+}
+
+static uint64_t compare_forward(uint32_t limit, size_t work_len, size_t result_len) {
+  lend_input(CALL_FORWARD);
+  lent_out(&lent_work, NULL, filled(), work_len);
+  lent_out(&lent_result, NULL, filled(), result_len);
+  memset(reference_work, 0x5a, work_len);
+  memset(reference_result, 0x5a, result_len);
+  uint64_t reference = reference_forward(now.pattern, now.pattern_len, now.block, now.block_len, limit, reference_work,
+                                         work_len, reference_result, result_len);
+  uint64_t library = spaldep_forward(lent_pattern.bytes, now.pattern_len, lent_block.bytes, now.block_len, limit,
+                                     lent_work.bytes, work_len, lent_result.bytes, result_len);
+  same_answer(CALL_FORWARD, library, reference);
+  same_bytes("leaves another result", &lent_result, reference_result);
+  same_bytes("leaves other working memory", &lent_work, reference_work);
+  count_report(reference_result, reference, result_len);
+  tally.met[MET_PEAK_IS_LIMIT] += spaldep_code(library) == 0 && spaldep_peak(library) == limit;
+  tally.met[MET_256_LIVE] += spaldep_peak(library) == 256;
+  return library;
+}
+
+static uint64_t compare_starts(size_t result_len) {
+  lend_input(CALL_STARTS);
+  lent_out(&lent_result, NULL, filled(), result_len);
+  memset(reference_result, 0x5a, result_len);
+  uint64_t reference =
+      reference_start_by_start(now.pattern, now.pattern_len, now.block, now.block_len, reference_result, result_len);
+  uint64_t library = spaldep_start_by_start(lent_pattern.bytes, now.pattern_len, lent_block.bytes, now.block_len,
+                                            lent_result.bytes, result_len);
+  same_answer(CALL_STARTS, library, reference);
+  same_bytes("leaves another result", &lent_result, reference_result);
+  return library;
+}
+
+uint64_t compare_measure(void) {
+  if (spaldep_measure == NULL) return 0;
+  lend_input(CALL_MEASURE);
+  uint64_t reference = reference_measure(now.pattern, now.pattern_len, now.block, now.block_len);
+  same_answer(CALL_MEASURE, spaldep_measure(lent_pattern.bytes, now.pattern_len, lent_block.bytes, now.block_len),
+              reference);
+  return reference;
+}
+
+void compare_by_rule(uint32_t limit, size_t work_len, size_t result_len) {
+  static uint8_t result[RESULT_ROOM], work[WORK_ROOM];
+  uint64_t lists = reference_by_rule_lists(now.pattern, now.pattern_len, now.block, now.block_len);
+  if (lists == 0 || lists > 3200) return;
+  now_call = "the reference's forward";
+  uint64_t pass = reference_forward(now.pattern, now.pattern_len, now.block, now.block_len, limit, reference_work,
+                                    work_len, reference_result, result_len);
+  uint64_t rule = reference_by_rule(now.pattern, now.pattern_len, now.block, now.block_len, limit, work, work_len,
+                                    result, result_len);
+  if (pass != rule) fail_answers(pass, rule);
+  if (memcmp(result, reference_result, result_len) != 0) fail("reports what the rule does not");
+  tally.met[MET_BY_RULE]++;
+}
+
+/* Demand 3: what one pass's acceptance says of the other. */
+void compare_passes(uint32_t limit, size_t work_len, size_t result_len) {
+  static uint8_t forward_result[RESULT_ROOM];
+  uint64_t forward = compare_forward(limit, work_len, result_len);
+  memcpy(forward_result, lent_result.bytes, result_len);
+  uint64_t starts = compare_starts(result_len);
+  bool in_order = limit >= 1 && limit <= 256 && work_len >= SPALDEP_WORK_BYTES(limit);
+  bool same = (forward & ~(uint64_t)0xffff) == starts && memcmp(forward_result, lent_result.bytes, result_len) == 0;
+  now_call = "the two passes";
+  if (spaldep_code(forward) == 0 && !(spaldep_code(starts) == 0 && same))
+    fail("differ: forward accepts, start-by-start does not, or with another result");
+  if (spaldep_code(starts) == 0 && in_order && !(same || spaldep_code(forward) == SPALDEP_REFUSED_LIVE))
+    fail("differ: start-by-start accepts, forward gives neither the same nor 10");
+  tally.met[MET_LIVE_ALONE] += spaldep_code(starts) == 0 && spaldep_code(forward) == SPALDEP_REFUSED_LIVE;
+}
+
+void calls_ready(void) {
+  static const int signals[] = {SIGSEGV, SIGBUS, SIGILL, SIGFPE, SIGABRT, SIGALRM};
+  lent_make(&lent_pattern, PATTERN_ROOM);
+  lent_make(&lent_block, BLOCK_ROOM);
+  lent_make(&lent_work, WORK_ROOM);
+  lent_make(&lent_result, RESULT_ROOM);
+  lent_make(&lent_listing, LISTING_ROOM);
+  for (size_t i = 0; i < sizeof signals / sizeof *signals; i++) signal(signals[i], stopped);
+}

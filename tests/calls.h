@@ -1,0 +1,40 @@
+/*
+ * Each call of the library beside the reference's, on the case at hand: the answer, every byte of the slices lent for
+ * writing, and that the others are unchanged. What differs is printed and makes the case a failed one.
+ */
+#ifndef CALLS_H
+#define CALLS_H
+
+#include <stdbool.h>
+#include <stddef.h>
+#include <stdint.h>
+
+#include "cases.h"
+
+/* Not in the header: compared where the library has it. */
+extern uint64_t spaldep_measure(const uint8_t *pattern, size_t pattern_len, const uint8_t *block, size_t block_len)
+    __attribute__((weak));
+
+/* The case at hand: the caller fills it in between begin_case and the first call. */
+extern struct test_case now;
+
+/* Once, before all else: makes the memory that is lent, and has a crash or a call that does not end reported. */
+void calls_ready(void);
+
+void begin_case(uint64_t seed);
+void end_case(void); /* counts the case */
+void fail(const char *what);
+
+/* Each gives the reference's answer. */
+uint64_t compare_check_pattern(void);
+uint64_t compare_check_block(void);
+uint64_t compare_listing(size_t listing_len);
+uint64_t compare_measure(void);
+
+/* Both passes, and demand 3 between them. */
+void compare_passes(uint32_t limit, size_t work_len, size_t result_len);
+
+/* The reference's forward pass against every list of bindings, where there are few enough. */
+void compare_by_rule(uint32_t limit, size_t work_len, size_t result_len);
+
+#endif

@@ -1,0 +1,304 @@
+/* Random cases: see cases.h. */
+#include "cases.h"
+
+#include <string.h>
+
+#include "reference.h"
+#include "shapes.h"
+
+/* ---- chance ---- */
+
+uint64_t random_next(struct random *r) {
+  uint64_t z = r->state += 0x9e3779b97f4a7c15u;
+  z = (z ^ z >> 30) * 0xbf58476d1ce4e5b9u;
+  z = (z ^ z >> 27) * 0x94d049bb133111ebu;
+  return z ^ z >> 31;
+}
+
+unsigned below(struct random *r, unsigned bound) { return (unsigned)(random_next(r) % bound); }
+
+unsigned between(struct random *r, unsigned low, unsigned high) { return low + below(r, high - low + 1); }
+
+bool chance(struct random *r, unsigned percent) { return below(r, 100) < percent; }
+
+unsigned pick(struct random *r, const unsigned *from, size_t count) { return from[below(r, (unsigned)count)]; }
+
+void set_field(uint8_t *bytes, size_t from, size_t width, uint64_t value) {
+  for (size_t i = 0; i < width; i++) {
+    size_t bit = from + i;
+    uint8_t mask = (uint8_t)(0x80u >> bit % 8);
+    if (value >> (width - 1 - i) & 1)
+      bytes[bit / 8] = (uint8_t)(bytes[bit / 8] | mask);
+    else
+      bytes[bit / 8] = (uint8_t)(bytes[bit / 8] & ~mask);
+  }
+}
+
+/* ---- blocks ---- */
+
+static const unsigned class_types[6][2] = {{0, 15}, {16, 31}, {32, 63}, {64, 95}, {96, 127}, {128, 255}};
+
+static uint32_t number32(struct random *r, unsigned edge_percent) {
+  static const uint32_t edges[] = {0, 1, 0x7ffffffe, 0x7fffffff, 0x80000000, 0x80000001, 0xfffffffe, 0xffffffff};
+  if (chance(r, edge_percent)) return edges[below(r, 8)];
+  return chance(r, 90) ? below(r, 4) : (uint32_t)random_next(r);
+}
+
+static unsigned type_of_class(struct random *r, unsigned class) {
+  const unsigned *range = class_types[class];
+  return chance(r, 40) ? range[below(r, 2)] : between(r, range[0], range[1]);
+}
+
+static void put_gap(struct random *r, uint8_t *at) {
+  set_field(at, 0, 2, 1);
+  set_field(at, 56, 32, chance(r, 50) ? 1 : chance(r, 50) ? 0xffffffff : 1 + (uint64_t)below(r, 1000));
+}
+
+static void put_event(struct random *r, const struct knobs *k, const unsigned *classes, unsigned *turn, uint8_t *at) {
+  unsigned class = below(r, 6);
+  if (chance(r, k->fire_percent)) {
+    unsigned v = below(r, k->variables);
+    if (chance(r, k->last_percent)) {
+      v = k->variables - 1;
+    } else if (chance(r, k->in_turn_percent)) {
+      v = *turn;
+      if (!chance(r, 20)) *turn = (*turn + 1) % k->variables;
+    }
+    class = classes[v];
+  }
+  set_field(at, 2, 6, k->cores == 64 ? below(r, 64) : below(r, k->cores));
+  set_field(at, 8, 8, type_of_class(r, class));
+  set_field(at, 56, 32, number32(r, k->edge_percent));
+  set_field(at, 88, 32, number32(r, k->edge_percent));
+}
+
+/* The first time: small, so that the last is the largest there is, or so that a power of two lies inside the block. */
+static uint64_t first_time(struct random *r, const struct knobs *k) {
+  uint64_t span = k->records * k->time_step, room = ((uint64_t)1 << 40) - 1 - span;
+  uint64_t power = (uint64_t)1 << PICK(r, 8, 16, 24, 31, 32, 39);
+  if (chance(r, 50)) return below(r, 100);
+  if (chance(r, 30)) return room;
+  return power >= span / 2 && power - span / 2 < room ? power - span / 2 : random_next(r) % room;
+}
+
+static void make_block(struct random *r, const struct knobs *k, const unsigned *classes, struct test_case *out) {
+  uint64_t time = first_time(r, k);
+  unsigned turn = 0;
+  out->block_len = 16 * (size_t)k->records;
+  memset(out->block, 0, out->block_len + 16);
+  for (size_t i = 0; i < k->records; i++) {
+    uint8_t *at = out->block + 16 * i;
+    if (chance(r, k->gap_percent))
+      put_gap(r, at);
+    else
+      put_event(r, k, classes, &turn, at);
+    set_field(at, 16, 40, time);
+    time += 1 + random_next(r) % k->time_step;
+  }
+}
+
+uint64_t time_of(const struct test_case *c, size_t record) {
+  uint64_t time = 0;
+  for (size_t i = 2; i < 7; i++) time = time << 8 | c->block[16 * record + i];
+  return time;
+}
+
+/* ---- patterns ---- */
+
+/* A duration, often the exact distance of two records or one less. */
+static uint64_t duration(struct random *r, const struct knobs *k, const struct test_case *c) {
+  size_t records = c->block_len / 16;
+  unsigned window = k->window;
+  if (window == 0 && chance(r, 30)) return ((uint64_t)1 << 40) - 1;
+  if (chance(r, 3)) return 0;
+  if (records < 2) return random_next(r) % 1000;
+  if (window == 0) window = between(r, 1, 40);
+  if (window >= records) window = (unsigned)records - 1;
+  size_t from = below(r, (unsigned)(records - window));
+  uint64_t distance = time_of(c, from + window) - time_of(c, from);
+  return chance(r, 50) ? distance : distance - 1;
+}
+
+static unsigned constant_of(struct random *r, const struct knobs *k, unsigned attribute) {
+  switch (attribute) {
+    case 0: return below(r, k->cores < 4 ? 3 : 64);
+    case 1: return chance(r, 50) ? class_types[below(r, 6)][below(r, 2)] : below(r, 256);
+    case 2: return below(r, 7);
+    default: return number32(r, k->edge_percent);
+  }
+}
+
+void put_condition(uint8_t *at, unsigned variable, unsigned attribute, unsigned operator, unsigned form,
+                   unsigned second_variable, unsigned second_attribute, uint32_t constant) {
+  memset(at, 0, 8);
+  set_field(at, 0, 4, variable);
+  set_field(at, 4, 3, attribute);
+  set_field(at, 7, 3, operator);
+  set_field(at, 10, 1, form);
+  set_field(at, 11, 4, second_variable);
+  set_field(at, 15, 3, second_attribute);
+  set_field(at, 32, 32, constant);
+}
+
+/* The value of an attribute of a record, as the block's bytes have it. */
+static int64_t value_of(const struct test_case *c, size_t record, unsigned attribute) {
+  const uint8_t *at = c->block + 16 * record;
+  uint32_t slot = 0, amount = 0;
+  unsigned event_class = 0;
+  for (size_t i = 0; i < 4; i++) {
+    slot = slot << 8 | at[7 + i];
+    amount = amount << 8 | at[11 + i];
+  }
+  while (at[1] > class_types[event_class][1]) event_class++;
+  switch (attribute) {
+    case 0: return at[0] & 63;
+    case 1: return at[1];
+    case 2: return event_class;
+    case 3: return slot;
+    default: return (int32_t)amount;
+  }
+}
+
+/* Some event of a class, or of any where there is none. */
+static size_t some_event(struct random *r, const struct test_case *c, unsigned class) {
+  size_t records = c->block_len / 16, from = below(r, (unsigned)records);
+  for (size_t i = 0; i < records && i < 20; i++)
+    if (value_of(c, (from + i) % records, 2) == class) return (from + i) % records;
+  return from;
+}
+
+/* Whether a condition holds of at least the asked share of events, tried by chance. */
+static bool holds_often(struct random *r, const struct knobs *k, const struct test_case *c, const unsigned *classes,
+                        const uint8_t *at) {
+  unsigned attribute = at[0] >> 1 & 7, second_attribute = (at[1] & 1u) << 2 | at[2] >> 6, met = 0;
+  uint32_t bits = (uint32_t)at[4] << 24 | (uint32_t)at[5] << 16 | (uint32_t)at[6] << 8 | at[7];
+  if (k->met_percent == 0 || c->block_len == 0) return true;
+  for (unsigned i = 0; i < 20; i++) {
+    int64_t left = value_of(c, some_event(r, c, classes[at[0] >> 4]), attribute);
+    int64_t right = attribute == 4 ? (int64_t)(int32_t)bits : (int64_t)bits;
+    if (at[1] >> 5 & 1) right = value_of(c, some_event(r, c, classes[at[1] >> 1 & 15]), second_attribute);
+    switch ((at[0] & 1) << 2 | at[1] >> 6) {
+      case 0: met += left == right; break;
+      case 1: met += left < right; break;
+      case 2: met += left <= right; break;
+      case 3: met += left > right; break;
+      default: met += left >= right; break;
+    }
+  }
+  return 5 * met >= k->met_percent;
+}
+
+static void put_any_condition(struct random *r, const struct knobs *k, uint8_t *at) {
+  unsigned variable = below(r, k->variables), attribute = below(r, 5), operator= below(r, 5);
+  if (attribute >= 3 && chance(r, 50)) operator= PICK(r, 2, 4);
+  if (chance(r, 40)) {
+    put_condition(at, variable, attribute, operator, 0, 0, 0, constant_of(r, k, attribute));
+    return;
+  }
+  unsigned second = chance(r, 15) ? variable : below(r, k->variables);
+  unsigned second_attribute = chance(r, 60) ? attribute : attribute >= 3 ? between(r, 3, 4) : below(r, 5);
+  put_condition(at, variable, attribute, operator, 1, second, second_attribute, 0);
+}
+
+/* Sets of at most 6 variables, as many as asked for where they fit. */
+static void put_variables(struct random *r, const struct knobs *k, uint8_t *bytes) {
+  unsigned set = 1, members = 0;
+  for (unsigned v = 0; v < k->variables; v++) {
+    unsigned after = k->variables - v, sets_after = k->sets - set;
+    bool must = members == 6 || (members > 0 && sets_after >= after);
+    bool may = members > 0 && sets_after > 0;
+    if (must || (may && chance(r, 100 * sets_after / after))) {
+      set++;
+      members = 0;
+    }
+    members++;
+    bool group = chance(r, k->group_percent) && !(v == 0 && k->first_single);
+    bytes[v] = (uint8_t)(set << 4 | (group ? 8u : 0u));
+  }
+}
+
+static unsigned put_conditions(struct random *r, const struct knobs *k, const unsigned *classes,
+                               const struct test_case *with, uint8_t *bytes) {
+  unsigned c = 0;
+  for (unsigned v = 0; v < k->variables; v++) {
+    if (chance(r, k->own_class_percent)) put_condition(bytes + 8 * c++, v, 2, 0, 0, 0, 0, classes[v]);
+    if (v > 0 && chance(r, k->core_joins_percent)) {
+      bool swap = chance(r, 50);
+      put_condition(bytes + 8 * c++, swap ? v : 0, 0, 0, 1, swap ? 0 : v, 0, 0);
+    }
+  }
+  for (unsigned i = 0; i < k->conditions && c < 32; i++) {
+    unsigned tries = 0;
+    do put_any_condition(r, k, bytes + 8 * c);
+    while (tries++ < 8 && !holds_often(r, k, with, classes, bytes + 8 * c));
+    c++;
+  }
+  return c;
+}
+
+static void make_pattern(struct random *r, const struct knobs *k, const unsigned *classes, struct test_case *out) {
+  uint8_t *bytes = out->pattern;
+  memset(bytes, 0, PATTERN_ROOM);
+  put_variables(r, k, bytes + 8);
+  unsigned c = put_conditions(r, k, classes, out, bytes + 8 + k->variables);
+  set_field(bytes, 0, 4, 1);
+  set_field(bytes, 4, 4, k->variables);
+  set_field(bytes, 8, 8, c);
+  set_field(bytes, 24, 40, duration(r, k, out));
+  out->pattern_len = 8 + k->variables + 8 * (size_t)c;
+}
+
+/* ---- doubling ---- */
+
+/* One start and then events that two group variables share: each doubles the readings, up to 256 and over. Gaps part
+   the starts, and the report fills the longest result slice. */
+static void make_doubling(struct random *r, struct test_case *out) {
+  unsigned starts = PICK(r, 1, 1, 2, 12, 13, 13), events = starts > 2 ? 8 : between(r, 6, 9);
+  size_t records = 0;
+  memset(out->pattern, 0, PATTERN_ROOM);
+  memset(out->block, 0, 16 * (size_t)(starts * (events + 2)));
+  memcpy(out->pattern, (const uint8_t[]){0x13, 3, 0, 0, 0, 0, 1, 0, 0x10, 0x28, 0x28}, 11);
+  for (unsigned v = 0; v < 3; v++) put_condition(out->pattern + 11 + 8 * v, v, 2, 0, 0, 0, 0, v > 0);
+  for (unsigned start = 0; start < starts; start++)
+    for (unsigned i = 0; i < events + 2; i++, records++) {
+      uint8_t *at = out->block + 16 * records;
+      if (i == events + 1) put_gap(r, at);
+      if (i > 0 && i <= events) set_field(at, 8, 8, 16);
+      set_field(at, 16, 40, records);
+    }
+  out->pattern_len = 35;
+  out->block_len = 16 * records;
+}
+
+/* ---- cases ---- */
+
+static void cut_to_effort(struct test_case *c, uint64_t effort) {
+  while (reference_effort(c->pattern, c->pattern_len, c->block, c->block_len, effort) >= effort)
+    c->block_len = c->block_len / 16 * 3 / 4 * 16;
+}
+
+static void make_by_knobs(struct random *r, const struct knobs *k, struct test_case *out) {
+  unsigned classes[12] = {0};
+  for (unsigned v = 0; v < k->variables; v++)
+    classes[v] = v > 0 && chance(r, k->shared_percent) ? classes[below(r, v)] : v < 6 ? v : below(r, 6);
+  make_block(r, k, classes, out);
+  make_pattern(r, k, classes, out);
+}
+
+void make_case(uint64_t seed, struct test_case *out) {
+  struct random r = {seed};
+  struct knobs k;
+  choose_knobs(&r, &k);
+  out->shape = k.shape;
+  if (chance(&r, 2)) {
+    out->shape = "doubling";
+    k.effort = 20000;
+    make_doubling(&r, out);
+  } else {
+    make_by_knobs(&r, &k, out);
+  }
+  if (chance(&r, 12)) damage_pattern(&r, out);
+  if (chance(&r, 8)) damage_block(&r, out);
+  cut_to_effort(out, k.effort);
+  out->large = out->block_len > 16 * 120;
+}

@@ -1,0 +1,245 @@
+/*
+ * compare SEED COUNT      holds the library against the reference on COUNT random cases, after the rows of document 01
+ *                         and its bench with every bit and every length changed
+ * compare case SEED       the one case with that seed, with its bytes
+ *
+ * Of each call: the answer, and every byte of the slices that it was lent. Of each case: both passes against each
+ * other. It prints how often each call gave each refusal, and its last line is 'N passed, M failed'. A refusal that a
+ * call has and that no case met is a failure, and so is each further thing that it counts.
+ */
+#define _DEFAULT_SOURCE
+#include <inttypes.h>
+#include <stdio.h>
+#include <stdlib.h>
+#include <string.h>
+#include <unistd.h>
+
+#include "calls.h"
+#include "cases.h"
+#include "reference.h"
+#include "rows.h"
+#include "spaldep.h"
+#include "tally.h"
+
+/* ---- lent memory at its edges ---- */
+
+static size_t any_listing_len(struct random *r, size_t steps) {
+  switch (below(r, 7)) {
+    case 0: return 8 * steps;
+    case 1: return 8 * steps - (steps > 0);
+    case 2: return 8 * (steps - (steps > 0));
+    case 3: return 8 * steps + below(r, 41);
+    case 4: return below(r, 18);
+    case 5: return below(r, 8 * (unsigned)steps + 1);
+    default: return 8 * SPALDEP_STEPS_MAX;
+  }
+}
+
+static size_t any_result_len(struct random *r, size_t used) {
+  switch (below(r, 16)) {
+    case 0:
+    case 1:
+    case 2:
+    case 3: return 2 * used;
+    case 4:
+    case 5:
+    case 6: return 2 * (used - (used > 0));
+    case 7: return 2 * used + (chance(r, 30) ? 1 : 2);
+    case 8: return 2 * used - (used > 0);
+    case 9: return 65536;
+    case 10: return 65536 + between(r, 1, 4);
+    case 11:
+    case 12: return 2 * below(r, (unsigned)used + 1);
+    case 13: return below(r, 4);
+    default: return 2 * below(r, (unsigned)used + 20);
+  }
+}
+
+static uint32_t any_limit(struct random *r, uint32_t peak) {
+  switch (below(r, 10)) {
+    case 0:
+    case 1:
+    case 2: return peak + (peak == 0);
+    case 3:
+    case 4: return peak - (peak > 1);
+    case 5: return 1 + below(r, 256);
+    case 6: return 256;
+    case 7:
+    case 8: return 1 + below(r, peak + 2);
+    default: {
+      static const uint32_t edges[] = {0, 1, 255, 257, 258, 0x10001, 0x80000001, 0xffffffff};
+      return edges[below(r, 8)];
+    }
+  }
+}
+
+static size_t any_work_len(struct random *r, uint32_t limit) {
+  size_t need = limit <= 256 ? SPALDEP_WORK_BYTES(limit) : SPALDEP_WORK_BYTES(256);
+  switch (below(r, 24)) {
+    case 0: return need - (need > 0);
+    case 1: return below(r, (unsigned)need + 1);
+    case 2: return need / 2;
+    case 3:
+    case 4: return need + below(r, 1000);
+    case 5: return need + 1;
+    default: return need;
+  }
+}
+
+/* ---- one case ---- */
+
+static void count_input(uint64_t pattern_answer, uint64_t block_answer) {
+  if (spaldep_code(pattern_answer) == 0) {
+    tally.met[MET_12_VARIABLES] += (now.pattern[0] & 15) == 12;
+    tally.met[MET_32_CONDITIONS] += now.pattern[1] == 32;
+  }
+  if (spaldep_code(block_answer) == 0) {
+    tally.met[MET_4096_RECORDS] += spaldep_used(block_answer) == 4096;
+    tally.met[MET_NO_RECORDS] += spaldep_used(block_answer) == 0;
+  }
+}
+
+/* The numbers that a pass would write and the most readings live, found with every slice as long as it may be: the
+   edges of the lent memory are chosen around them. Where the forward pass refuses at a record, the records before it
+   count, so that a limit of just the peak meets that record. */
+static void find_edges(size_t *used, uint32_t *peak) {
+  static uint8_t work[160 * 256], result[65536];
+  uint64_t forward = reference_forward(now.pattern, now.pattern_len, now.block, now.block_len, 256, work,
+                                       SPALDEP_WORK_BYTES(256), result, 65536);
+  if (spaldep_code(forward) == SPALDEP_REFUSED_BINDINGS || spaldep_code(forward) == SPALDEP_REFUSED_LIVE)
+    forward = reference_forward(now.pattern, now.pattern_len, now.block, 16 * (size_t)spaldep_place(forward), 256, work,
+                                SPALDEP_WORK_BYTES(256), result, 65536);
+  uint64_t starts = reference_start_by_start(now.pattern, now.pattern_len, now.block, now.block_len, result, 65536);
+  *used = spaldep_code(starts) == 0 ? spaldep_used(starts) : spaldep_used(forward);
+  *peak = spaldep_peak(forward);
+}
+
+static void run_case(uint64_t seed) {
+  struct random r = {seed ^ 0x5bd1e995};
+  size_t used;
+  uint32_t peak;
+  begin_case(seed);
+  make_case(seed, &now);
+  uint64_t pattern = compare_check_pattern(), block = compare_check_block();
+  count_input(pattern, block);
+  uint64_t listing = compare_listing(8 * SPALDEP_STEPS_MAX);
+  compare_listing(any_listing_len(&r, spaldep_used(listing)));
+  compare_measure();
+  find_edges(&used, &peak);
+  compare_passes(256, SPALDEP_WORK_BYTES(256), 65536);
+  compare_by_rule(256, SPALDEP_WORK_BYTES(256), 65536);
+  for (unsigned i = 0; i < (now.large ? 1 : 3); i++) {
+    uint32_t limit = any_limit(&r, peak);
+    size_t work_len = any_work_len(&r, limit), result_len = any_result_len(&r, used);
+    compare_passes(limit, work_len, result_len);
+    if (i == 0) compare_by_rule(limit, work_len, result_len);
+  }
+  end_case();
+}
+
+/* ---- every bit and every length of the bench ---- */
+
+/* All calls on the bench, changed in one place: bit `at` of its pattern or of its block, or one of the lengths. */
+static void run_changed_bench(const char *what, size_t at) {
+  static char shape[80];
+  snprintf(shape, sizeof shape, "the bench with %s %zu", what, at);
+  begin_case(0);
+  now.shape = shape;
+  memset(now.pattern, 0, sizeof now.pattern);
+  memset(now.block, 0, 16 * 20);
+  now.pattern_len = bench_pattern(now.pattern);
+  now.block_len = bench_block(now.block);
+  if (strcmp(what, "pattern bit") == 0) now.pattern[at / 8] = (uint8_t)(now.pattern[at / 8] ^ 0x80u >> at % 8);
+  if (strcmp(what, "block bit") == 0) now.block[at / 8] = (uint8_t)(now.block[at / 8] ^ 0x80u >> at % 8);
+  if (strcmp(what, "pattern length") == 0) now.pattern_len = at;
+  if (strcmp(what, "block length") == 0) now.block_len = at;
+  compare_check_pattern();
+  compare_check_block();
+  compare_listing(8 * SPALDEP_STEPS_MAX);
+  compare_measure();
+  compare_passes(256, SPALDEP_WORK_BYTES(256), 65536);
+  end_case();
+}
+
+static void run_changed_benches(void) {
+  uint64_t before = tally.failed;
+  size_t pattern_len = bench_pattern(now.pattern), block_len = bench_block(now.block);
+  for (size_t at = 0; at < 8 * pattern_len; at++) run_changed_bench("pattern bit", at);
+  for (size_t at = 0; at < 8 * block_len; at++) run_changed_bench("block bit", at);
+  for (size_t at = 0; at <= pattern_len + 16; at++) run_changed_bench("pattern length", at);
+  for (size_t at = 0; at <= block_len + 16; at++) run_changed_bench("block length", at);
+  printf("the bench with each bit and each length changed: %" PRIu64 " differ\n", tally.failed - before);
+}
+
+/* Two group variables, no conditions and 19 events: more readings and more numbers than the answer's fields hold. */
+static void run_measure_stops(void) {
+  static const uint8_t pattern[] = {0x12, 0, 0, 0, 0, 0, 0, 99, 0x18, 0x18};
+  if (spaldep_measure == NULL) return;
+  begin_case(0);
+  now.shape = "measure stops";
+  now.pattern_len = sizeof pattern;
+  now.block_len = 16 * 19;
+  memcpy(now.pattern, pattern, sizeof pattern);
+  memset(now.block, 0, now.block_len);
+  for (unsigned i = 0; i < 19; i++) now.block[16 * i + 6] = (uint8_t)i;
+  if (compare_measure() != (uint64_t)0xffffffffff << 16) fail("does not stop at the largest number of its fields");
+  end_case();
+}
+
+/* ---- the run ---- */
+
+static void hex(const char *name, const uint8_t *bytes, size_t length) {
+  printf("%s (%zu bytes)", name, length);
+  for (size_t i = 0; i < length; i++) printf("%s%02x", i % 16 == 0 ? "\n  " : " ", bytes[i]);
+  printf("\n");
+}
+
+static uint64_t number(const char *text) {
+  char *end;
+  uint64_t n = strtoull(text, &end, 0);
+  if (*text == 0 || *end != 0) {
+    fprintf(stderr, "compare: not a number: %s\n", text);
+    exit(2);
+  }
+  return n;
+}
+
+static int run_one(uint64_t seed) {
+  run_case(seed);
+  printf("shape %s\n", now.shape);
+  hex("pattern", now.pattern, now.pattern_len);
+  hex("block", now.block, now.block_len);
+  printf("%" PRIu64 " passed, %" PRIu64 " failed\n", tally.passed, tally.failed);
+  return tally.failed == 0 ? 0 : 1;
+}
+
+static int run_all(uint64_t seed, uint64_t count) {
+  struct random r = {seed};
+  uint64_t calls = 0;
+  memset(tally.calls, 0, sizeof tally.calls); /* what is to be met, the random cases must meet */
+  memset(tally.codes, 0, sizeof tally.codes);
+  memset(tally.met, 0, sizeof tally.met);
+  printf("seed %" PRIu64 ", %" PRIu64 " cases\n", seed, count);
+  fflush(stdout);
+  for (uint64_t i = 0; i < count; i++) run_case(random_next(&r));
+  alarm(0);
+  for (int call = 0; call < CALLS; call++) calls += tally.calls[call];
+  printf("%" PRIu64 " calls compared\n", calls);
+  print_answers(spaldep_measure != NULL);
+  demand_all_met(spaldep_measure != NULL);
+  printf("%" PRIu64 " passed, %" PRIu64 " failed\n", tally.passed, tally.failed);
+  return tally.failed == 0 ? 0 : 1;
+}
+
+int main(int argc, char **argv) {
+  calls_ready();
+  if (argc != 3) {
+    fprintf(stderr, "usage: compare SEED COUNT | compare case SEED\n");
+    return 2;
+  }
+  if (strcmp(argv[1], "case") == 0) return run_one(number(argv[2]));
+  rows_run(&tally.passed, &tally.failed);
+  run_measure_stops();
+  run_changed_benches();
+  return run_all(number(argv[1]), number(argv[2]));
+}

@@ -1,0 +1,164 @@
+/* The rows of document 01: see rows.h. */
+#include "rows.h"
+
+#include <inttypes.h>
+#include <stdbool.h>
+#include <stdio.h>
+#include <string.h>
+
+#include "reference.h"
+#include "spaldep.h"
+
+struct implementation {
+  const char *name;
+  uint64_t (*list_automaton)(const uint8_t *, size_t, uint8_t *, size_t);
+  uint64_t (*forward)(const uint8_t *, size_t, const uint8_t *, size_t, uint32_t, uint8_t *, size_t, uint8_t *, size_t);
+  uint64_t (*start_by_start)(const uint8_t *, size_t, const uint8_t *, size_t, uint8_t *, size_t);
+};
+
+static const struct implementation implementations[] = {
+    {"library", spaldep_list_automaton, spaldep_forward, spaldep_start_by_start},
+    {"reference", reference_list_automaton, reference_forward, reference_start_by_start},
+};
+
+/* An event or, with kind 1, a gap; slot only of the gap. */
+struct entry {
+  unsigned kind, core, type, slot;
+  uint64_t time;
+};
+
+struct row {
+  const char *name;
+  const char *pattern; /* hex */
+  const struct entry *entries;
+  size_t records;
+  uint32_t limit;
+  size_t numbers; /* 16-bit numbers lent */
+  unsigned code;
+  uint32_t place; /* of a refusal */
+  uint32_t readings, peak;
+  const uint16_t *result;
+  size_t used;
+};
+
+#define BENCH \
+  "13050000 00000064 101820 0400000000000000 1400000000000001 2400000000000002 0022000000000000 0024000000000000"
+
+static const struct entry bench[] = {
+    {0, 1, 3, 0, 10}, {0, 2, 17, 0, 20}, {0, 1, 17, 0, 30}, {0, 1, 17, 0, 40}, {0, 1, 33, 0, 50},  {0, 2, 3, 0, 60},
+    {1, 0, 0, 9, 70}, {0, 2, 33, 0, 80}, {0, 2, 17, 0, 90}, {0, 2, 3, 0, 100}, {0, 2, 17, 0, 110}, {0, 2, 33, 0, 120},
+};
+static const uint16_t bench_result[] = {12292, 0, 4098, 4099, 8196, 8196, 4104, 9, 4106, 8203, 8195, 9, 4106, 8203};
+
+static const struct entry one[] = {{0, 0, 0, 0, 5}};
+static const uint16_t one_result[] = {0x2001, 0x0000};
+static const struct entry at_100[] = {{0, 0, 0, 0, 10}, {0, 0, 0, 0, 110}};
+static const uint16_t at_100_result[] = {0x2002, 0x0000, 0x1001};
+static const struct entry at_101[] = {{0, 0, 0, 0, 10}, {0, 0, 0, 0, 111}};
+
+/* c p d p with {c, d, p}, told apart by class: c@0 p@1 d@2 and nothing that passes over the first p. */
+static const struct entry cpdp[] = {{0, 0, 0, 0, 1}, {0, 0, 32, 0, 2}, {0, 0, 16, 0, 3}, {0, 0, 32, 0, 4}};
+static const uint16_t cpdp_result[] = {0x2003, 0x0000, 0x2001, 0x1002};
+
+static const struct row rows[] = {
+    {"the bench, P1", BENCH, bench, 12, 256, 32768, 0, 0, 3, 5, bench_result, 14},
+    {"P3", BENCH, bench, 12, 5, 32768, 0, 0, 3, 5, bench_result, 14},
+    {"P4", BENCH, bench, 12, 4, 32768, 10, 5, 3, 0, bench_result, 14},
+    {"P5", BENCH, bench, 12, 256, 14, 0, 0, 3, 5, bench_result, 14},
+    {"P6", BENCH, bench, 12, 256, 13, 11, 0, 0, 0, NULL, 0},
+    {"P7", BENCH, bench, 0, 256, 32768, 0, 0, 0, 0, NULL, 0},
+    {"P8", "1100000000000000 10", one, 1, 256, 32768, 0, 0, 1, 1, one_result, 2},
+    {"P9", "1200000000000064 10 20", at_100, 2, 256, 32768, 0, 0, 1, 2, at_100_result, 3},
+    {"P10", "1200000000000064 10 20", at_101, 2, 256, 32768, 0, 0, 0, 1, NULL, 0},
+    {"c p d p", "1303000000000064 10 10 10 0400000000000000 1400000000000001 2400000000000002", cpdp, 4, 256, 32768, 0,
+     0, 1, 4, cpdp_result, 4},
+};
+
+static size_t from_hex(const char *text, uint8_t *bytes) {
+  size_t digits = 0;
+  for (; *text != 0; text++) {
+    const char *place = strchr("0123456789abcdef", *text);
+    if (*text == ' ' || place == NULL) continue;
+    unsigned digit = (unsigned)(place - "0123456789abcdef");
+    bytes[digits / 2] = (uint8_t)(digits % 2 == 0 ? digit << 4 : bytes[digits / 2] | digit);
+    digits++;
+  }
+  return digits / 2;
+}
+
+static size_t to_block(const struct entry *entries, size_t records, uint8_t *block) {
+  memset(block, 0, 16 * records);
+  for (size_t i = 0; i < records; i++) {
+    uint8_t *at = block + 16 * i;
+    at[0] = (uint8_t)(entries[i].kind << 6 | entries[i].core);
+    at[1] = (uint8_t)entries[i].type;
+    for (unsigned b = 0; b < 5; b++) at[2 + b] = (uint8_t)(entries[i].time >> (32 - 8 * b));
+    at[10] = (uint8_t)entries[i].slot;
+  }
+  return 16 * records;
+}
+
+size_t bench_pattern(uint8_t *pattern) { return from_hex(BENCH, pattern); }
+
+size_t bench_block(uint8_t *block) { return to_block(bench, sizeof bench / sizeof *bench, block); }
+
+static bool result_is(const uint8_t *result, size_t numbers, const uint16_t *expected, size_t used) {
+  for (size_t i = 0; i < numbers; i++)
+    if (spaldep_number(result, i) != (i < used ? expected[i] : 0)) return false;
+  return true;
+}
+
+static bool answer_is(uint64_t answer, unsigned code, uint32_t place, uint32_t used, uint32_t readings, uint32_t peak) {
+  return spaldep_code(answer) == code && spaldep_place(answer) == place && spaldep_used(answer) == used &&
+         spaldep_readings(answer) == readings && spaldep_peak(answer) == peak;
+}
+
+/* The start-by-start pass has no limit: where the row is about it, that pass accepts. */
+static bool row_holds(const struct implementation *i, const struct row *row) {
+  static uint8_t pattern[512], block[16 * 16], work[160 * 256], result[65536];
+  size_t pattern_len = from_hex(row->pattern, pattern), block_len = to_block(row->entries, row->records, block);
+  bool accepted = row->code == 0, by_starts = accepted || row->code == SPALDEP_REFUSED_LIVE;
+  uint32_t used = (uint32_t)row->used;
+  memset(result, 0xff, sizeof result);
+  uint64_t forward = i->forward(pattern, pattern_len, block, block_len, row->limit, work, 160 * (size_t)row->limit,
+                                result, 2 * row->numbers);
+  if (!answer_is(forward, row->code, row->place, accepted ? used : 0, accepted ? row->readings : 0, row->peak) ||
+      !result_is(result, row->numbers, row->result, accepted ? used : 0))
+    return false;
+  memset(result, 0xff, sizeof result);
+  uint64_t starts = i->start_by_start(pattern, pattern_len, block, block_len, result, 2 * row->numbers);
+  return answer_is(starts, by_starts ? 0 : row->code, by_starts ? 0 : row->place, by_starts ? used : 0,
+                   by_starts ? row->readings : 0, 0) &&
+         result_is(result, row->numbers, row->result, by_starts ? used : 0);
+}
+
+/* P2, and the paper's example with sets {c, p+, d} and {b}. */
+static bool listing_holds(const struct implementation *i, const char *hex, uint32_t steps, uint64_t last) {
+  uint8_t pattern[512], listing[8 * SPALDEP_STEPS_MAX];
+  size_t pattern_len = from_hex(hex, pattern);
+  uint64_t answer = i->list_automaton(pattern, pattern_len, listing, sizeof listing);
+  return answer_is(answer, 0, 0, steps, 0, 0) && spaldep_step(listing, steps - 1) == last &&
+         spaldep_step(listing, steps) == 0;
+}
+
+static void count(const struct implementation *i, const char *name, bool holds, uint64_t *passed, uint64_t *failed) {
+  if (holds) {
+    ++*passed;
+    return;
+  }
+  printf("FAILED: %s of document 01, by the %s\n", name, i->name);
+  ++*failed;
+}
+
+void rows_run(uint64_t *passed, uint64_t *failed) {
+  for (size_t k = 0; k < sizeof implementations / sizeof *implementations; k++) {
+    const struct implementation *i = &implementations[k];
+    for (size_t row = 0; row < sizeof rows / sizeof *rows; row++)
+      count(i, rows[row].name, row_holds(i, &rows[row]), passed, failed);
+    count(i, "P2", listing_holds(i, BENCH, 7, 0x0032800000000014), passed, failed);
+    count(i, "the example of 17 steps", listing_holds(i, "1400000000000108 10 18 10 20", 17, 0x0073800000000000),
+          passed, failed);
+  }
+  printf("rows of document 01, by the library and by the reference: %" PRIu64 " hold, %" PRIu64 " do not\n", *passed,
+         *failed);
+}

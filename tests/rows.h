@@ -1,0 +1,15 @@
+/* The rows that document 01 states outright, run on the library and on the reference. */
+#ifndef ROWS_H
+#define ROWS_H
+
+#include <stddef.h>
+#include <stdint.h>
+
+/* The bytes of document 01's bench. */
+size_t bench_pattern(uint8_t *pattern);
+size_t bench_block(uint8_t *block);
+
+/* Adds one to *passed or *failed for each row and implementation; prints the rows that fail. */
+void rows_run(uint64_t *passed, uint64_t *failed);
+
+#endif

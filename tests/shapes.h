@@ -1,0 +1,30 @@
+/* The shapes of random cases: what goes into a case before chance fills it in. Percentages are of 100. */
+#ifndef SHAPES_H
+#define SHAPES_H
+
+#include "cases.h"
+
+struct knobs {
+  const char *shape;
+  unsigned variables, sets;
+  unsigned group_percent;      /* variables that are group variables, */
+  bool first_single;           /* the first of them never */
+  unsigned own_class_percent;  /* variables with the condition that class is theirs */
+  unsigned shared_percent;     /* variables that share the class of another */
+  unsigned core_joins_percent; /* variables with the condition that core is that of variable 0 */
+  unsigned conditions;         /* further conditions of any sort, */
+  unsigned met_percent;        /* and the share of tried events that each must hold of */
+  unsigned edge_percent;       /* slots, amounts and constants at the edges of their ranges */
+  unsigned records, gap_percent;
+  unsigned fire_percent;    /* events of a class that some variable asks for */
+  unsigned last_percent;    /* of those, the ones of the last variable's class */
+  unsigned in_turn_percent; /* of the others, the ones that follow the pattern's order */
+  unsigned cores;
+  uint64_t time_step; /* the most cycles between two records */
+  unsigned window;    /* records that a window holds, about; 0: any duration */
+  uint64_t effort;    /* tests that the start-by-start pass may make */
+};
+
+void choose_knobs(struct random *r, struct knobs *k);
+
+#endif

@@ -1,0 +1,67 @@
+/* What a run of compare has met: see tally.h. */
+#include "tally.h"
+
+#include <inttypes.h>
+#include <stdio.h>
+
+/* Codes 0 to 12. Refusal 13 does not arise: a binding takes a record above all that are bound. */
+enum { REFUSALS = 13 };
+
+struct tally tally;
+
+const char *const call_names[CALLS] = {"check_pattern", "check_block",    "list_automaton",
+                                       "forward",       "start_by_start", "measure"};
+
+/* The refusals that each call has: bit i for number i. */
+static const unsigned call_refusals[CALLS] = {0x1e, 0xe0, 0x101e, 0xffe, 0xbfe, 0x2fe};
+
+static const char *const met_names[METS] = {
+    "reports with mark 1",
+    "reports with mark 2",
+    "reports with mark 3",
+    "reports with a reading of 32 bindings",
+    "forward passes whose peak is the limit",
+    "forward passes with a peak of 256",
+    "passes that fill the result slice",
+    "passes that need more than the longest result slice",
+    "listings that fill their slice",
+    "accepted blocks of 4,096 records",
+    "accepted blocks of no records",
+    "accepted patterns of 12 variables",
+    "accepted patterns of 32 conditions",
+    "passes where only the forward one refuses, with 10",
+    "forward passes held against every list of bindings",
+};
+
+void print_answers(bool with_measure) {
+  printf("answers by their code, 0 accepted; a dash where the call has no such refusal\n%-15s", "");
+  for (unsigned code = 0; code < REFUSALS; code++) printf("%7u", code);
+  printf("\n");
+  for (int call = 0; call < CALLS; call++) {
+    if (call == CALL_MEASURE && !with_measure) continue;
+    printf("%-15s", call_names[call]);
+    for (unsigned code = 0; code < REFUSALS; code++)
+      if (code == 0 || call_refusals[call] >> code & 1)
+        printf("%7" PRIu64, tally.codes[call][code]);
+      else
+        printf("%7s", "-");
+    printf("\n");
+  }
+  printf("refusal 13 has no case: a binding takes a record above all that are bound\n");
+}
+
+void demand_all_met(bool with_measure) {
+  for (int call = 0; call < CALLS; call++)
+    for (unsigned code = 0; code < REFUSALS; code++) {
+      if (call == CALL_MEASURE && !with_measure) continue;
+      if (!(code == 0 || call_refusals[call] >> code & 1) || tally.codes[call][code] > 0) continue;
+      printf("FAILED: no case met %s with code %u\n", call_names[call], code);
+      tally.failed++;
+    }
+  for (int met = 0; met < METS; met++) {
+    printf("%9" PRIu64 " %s\n", tally.met[met], met_names[met]);
+    if (tally.met[met] > 0) continue;
+    printf("FAILED: never met: %s\n", met_names[met]);
+    tally.failed++;
+  }
+}
