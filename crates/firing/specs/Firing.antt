@@ -97,10 +97,13 @@ joinHolds plan bytes i v r k = implies (bit (joinsIn plan v) k) (all (pairHolds 
 unfoldable pub joinsBy : List ℕ → List ℕ → ℕ → ℕ → Reading → Bool
 joinsBy plan bytes i v r = every (joinHolds plan bytes i v r) mostConditions
 
+-- what a reading is asked beside its state: the order mark, and the conditions that join v
+abbrev pub agreesBy : List ℕ → List ℕ → ℕ → ℕ → Held → Bool
+agreesBy plan bytes i v h = laterBy plan bytes i v h && joinsBy plan bytes i v (h .bindings)
+
 -- the step on v fires, where the variables of `can` are those whose own conditions hold
 unfoldable pub firesBy : List ℕ → List ℕ → ℕ → ℕ → ℕ → Held → Bool
-firesBy plan bytes i can v h =
-    bit can v && (leavesBy plan (h .state) v && (laterBy plan bytes i v h && joinsBy plan bytes i v (h .bindings)))
+firesBy plan bytes i can v h = bit can v && (leavesBy plan (h .state) v && agreesBy plan bytes i v h)
 
 -- a reading of p whose records stand below i, none of them behind the latest binding's
 pub record ReadBelow (p : Pattern) (i : ℕ) (r : Reading) : Type 0 where

@@ -13,7 +13,7 @@ ghost use Rattle.patterns.specs.Checked.{InOrder, conditionAt};
 ghost use Rattle.patterns.specs.Comparison.{value, raise, holds};
 ghost use Rattle.slots.specs.Slots.{bindingOf, bindingsIn, countIn, heldIn};
 ghost use Rattle.firing.specs.Plan.{planRoom, joins, standing, variableMask, joinMask, IsWord, Placed, IsPlan, Sound};
-ghost use Rattle.firing.specs.Firing.{settled, canBy, leavesBy, laterBy, sideOf, testedBy, pairMeets, joinsBy, firesBy, Fit};
+ghost use Rattle.firing.specs.Firing.{settled, canBy, leavesBy, laterBy, sideOf, testedBy, pairMeets, joinsBy, agreesBy, firesBy, Fit};
 use patterns::Condition;
 use patterns::Pattern;
 use records::Record;
@@ -337,6 +337,17 @@ pub fn joins_hold(plan: &[u64; 80], block: &[u8], i: usize, v: usize, slot: &[u8
         rest = rest - numbers::weight(at);
     }
     hold
+}
+
+// Whether record i meets the order mark and every condition that joins v, for the slot's reading.
+pub fn agrees(plan: &[u64; 80], block: &[u8], i: usize, v: usize, slot: &[u8]) -> bool
+    requires { ⌜ Fit (now plan) (now block) i (now slot) × (v < mostVariables) ⌝ }
+    ensures { λ r. ⌜ r ≡ agreesBy (now (plan .entry)) (now (block .entry)) i v (heldIn (now (slot .entry))) ⌝ }
+{
+    if !is_later(plan, block, i, v, slot) {
+        return false;
+    }
+    joins_hold(plan, block, i, v, slot)
 }
 
 // Whether the step on v fires for the slot's reading at record i, `can` being the variables whose own conditions hold.

@@ -84,21 +84,29 @@ pub fn empty_slot() -> [u8; 80]
     [0u8; 80]
 }
 
+// One binding more: variable v to record i.
+pub fn bind(slot: &mut [u8], i: usize, v: usize)
+    requires { ⌜ (length (now slot) ≡ slotBytes) × (countIn (now slot) < 32) × (v < 12) × (i < 4096) ⌝ }
+    ensures { λ r. ⌜ (heldIn (now (slot .exit)) ≡ grow i v (heldIn (now (slot .entry)))) × (length (now (slot .exit)) ≡ slotBytes) × (countIn (now (slot .exit)) ≡ countIn (now (slot .entry)) + 1) ⌝ }
+{
+    let count = count_of(slot);
+    let state = numbers::with_bit(numbers::number2(slot, 2) as u64, v);
+    let at = 4 + 2 * count;
+    let binding = v * RECORD_NUMBERS + i;
+    slot[1] = (count + 1) as u8;
+    slot[2] = (state / 256) as u8;
+    slot[3] = (state % 256) as u8;
+    slot[at] = (binding / 256) as u8;
+    slot[at + 1] = (binding % 256) as u8;
+}
+
 // The slot with one binding more: variable v to record i.
 pub fn grown(slot: [u8; 80], i: usize, v: usize) -> [u8; 80]
     requires { ⌜ (length slot ≡ slotBytes) × (countIn slot < 32) × (v < 12) × (i < 4096) ⌝ }
     ensures { λ r. ⌜ (heldIn r ≡ grow i v (heldIn slot)) × (length r ≡ slotBytes) × (countIn r ≡ countIn slot + 1) ⌝ }
 {
     let mut more = slot;
-    let count = count_of(&slot);
-    let state = numbers::with_bit(numbers::number2(&slot, 2) as u64, v);
-    let at = 4 + 2 * count;
-    let binding = v * RECORD_NUMBERS + i;
-    more[1] = (count + 1) as u8;
-    more[2] = (state / 256) as u8;
-    more[3] = (state % 256) as u8;
-    more[at] = (binding / 256) as u8;
-    more[at + 1] = (binding % 256) as u8;
+    bind(&mut more[0..SLOT_BYTES], i, v);
     more
 }
 
