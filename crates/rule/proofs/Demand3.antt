@@ -116,7 +116,7 @@ pub record TooManyFirst (pattern block : List ℕ) (limit lentWork lentResult j 
   pub earliest : (i u : ℕ) → (i < j) ⊎ ((i ≡ j) × (u < 3)) → ¬ Meets (patternIn pattern) (blockIn block) limit (roomIn lentResult) i u
 
 -- what is counted live after record j is there, so record j is one of the block
-many-inside : (p : Pattern) (B : Block) → TimesNeverFall B → (L j : ℕ) → TooMany p B L j → j < length B
+pub many-inside : (p : Pattern) (B : Block) → TimesNeverFall B → (L j : ℕ) → TooMany p B L j → j < length B
 many-inside p B mono L j m = go (m .count .readings) (omega (arith, m .more, m .count .size)) (m .count .sound)
   where
     go : (l : List Reading) → 1 ≤ length l → ((r : Reading) → List·Memᴰ r l → LiveAfter p B r j) → j < length B

@@ -1,2 +1,4 @@
 pub mod Fields
 pub mod Unfit
+pub mod One
+pub mod Demand3
