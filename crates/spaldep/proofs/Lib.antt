@@ -2,3 +2,4 @@ pub mod Fields
 pub mod Unfit
 pub mod One
 pub mod Demand3
+pub mod ShutOut
