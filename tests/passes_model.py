@@ -1,13 +1,12 @@
 #!/usr/bin/env python3
-"""What the start-by-start pass and measure must answer, written from document 01's reading rule alone, and the table of
-cases that the program `passes` is held to. No part of the gate, which compares what the program writes with its stdout
-file.
+"""What the two passes and measure must answer, written from document 01's reading rule alone, and the table of cases that
+the program `passes` is held to. No part of the gate, which compares what the program writes with its stdout file.
 
-    tests/passes_model.py < crates/passes/stdin    reads a table and writes the line that each case must give
+    tests/passes_model.py < crates/passes/stdin    reads a table and writes the lines that each case must give
     tests/passes_model.py --write                  writes crates/passes/stdin (the table below) and crates/passes/stdout
 
-crates/passes/src/main.rt says what a row of the table is; cases.rt there says what a line is. The model goes record by
-record over all live readings, and sorts what closed at the end; it knows nothing of starts.
+crates/passes/src/main.rt says what a row of the table is; cases.rt there says what its lines are. The model goes record by
+record over all live readings, and sorts what closed at the end; it knows nothing of starts, and nothing of slots.
 """
 import os
 import sys
@@ -17,6 +16,8 @@ from checks_model import BENCH_BLOCK, BENCH_PATTERN, check_block, check_pattern,
 
 MOST_BINDINGS = 32
 MOST_COUNTED = 4294967295
+MOST_LIVE = 256
+WORK_PER_READING = 160
 PAST, END, GAP = 1, 2, 3
 
 # ---- Document 01: the reading rule. A reading is a tuple of (variable, record), oldest first. ----
@@ -81,78 +82,114 @@ class Rule:
                     return False
         return True
 
-    def report(self):
-        """The least record with a 33rd binding, or None; and the lines."""
-        live, lines, over = [], [], []
+    def closed(self, readings, mark):
+        """The lines of those readings that hold all variables."""
+        return [(mark, reading) for reading in readings if {u for u, _ in reading} == set(range(len(self.sets)))]
 
-        def close(reading, mark):
-            if {u for u, _ in reading} == set(range(len(self.sets))):
-                lines.append((mark, reading))
-
+    def history(self):
+        """Of each record, and then of the end: the lines that close there, whether a reading would take a 33rd binding
+        there, and how many readings are live after it."""
+        live = []
         for j, record in enumerate(self.records):
             if record[0] == 1:
-                for reading in live:
-                    close(reading, GAP)
+                yield self.closed(live, GAP), False, 0
                 live = []
                 continue
-            after = []
-            for reading in live + [()]:
-                if reading and record[3] - self.records[reading[0][1]][3] > self.duration:
-                    close(reading, PAST)
-                    continue
+            late = [reading for reading in live if record[3] - self.records[reading[0][1]][3] > self.duration]
+            after, over = [], False
+            for reading in [()] + [reading for reading in live if reading not in late]:
                 firing = [v for v in range(len(self.sets)) if self.fires(reading, v, j)]
                 if firing and len(reading) == MOST_BINDINGS:
-                    over.append(j)
+                    over = True
                 elif firing:
                     after += [reading + ((v, j),) for v in firing]
                 elif reading:
                     after.append(reading)
+            yield self.closed(late, PAST), over, len(after)
             live = after
-        for reading in live:
-            close(reading, END)
-        lines.sort(key=lambda line: (line[1][0][1], [v for v, _ in line[1]]))
-        return (min(over) if over else None), lines
+        yield self.closed(live, END), False, 0
 
 
 def pack(lines):
+    """The numbers of a report: by first record, then by the variables."""
     numbers = []
-    for mark, reading in lines:
+    for mark, reading in sorted(lines, key=lambda line: (line[1][0][1], [v for v, _ in line[1]])):
         numbers += [mark * 4096 + len(reading)] + [v * 4096 + j for v, j in reading]
     return numbers
 
 
-def answers(lent, pattern, block):
-    """The pass's answer, the numbers of the result, and measure's answer."""
-    room = lent // 2
+# ---- Document 01: the calls. Each gives its answer, and a pass the numbers that it writes. ----
 
-    def both(code, place):
-        return (code, place, 0, 0, 0), [0] * room, (code, place, 0, 0, 0)
 
+def refused(code, place):
+    return (code, place, 0, 0, 0), []
+
+
+def forward(rule, limit, work, room):
+    """At one record 11 comes first, as closings do, then 9, then 10. (13 never arises: no step binds a record again.)"""
+    if not 1 <= limit <= MOST_LIVE or work < WORK_PER_READING * limit:
+        return refused(8, 0)
+    lines, peak = [], 0
+    for j, (closed, over, live) in enumerate(rule.history()):
+        lines += closed
+        if len(pack(lines)) > room:
+            return refused(11, 0)
+        if over:
+            return refused(9, j)
+        if live > limit:
+            return refused(10, j)
+        peak = max(peak, live)
+    return (0, 0, len(pack(lines)), len(lines), peak), pack(lines)
+
+
+def measure(rule):
+    """9 over the whole block, at the least such record; never 11."""
+    lines = []
+    for j, (closed, over, _) in enumerate(rule.history()):
+        if over:
+            return refused(9, j)
+        lines += closed
+    return (0, 0, min(len(pack(lines)), MOST_COUNTED), min(len(lines), MOST_COUNTED), 0), pack(lines)
+
+
+def start_by_start(rule, room):
+    """As measure, and then 11."""
+    answer, numbers = measure(rule)
+    return refused(11, 0) if len(numbers) > room else (answer, numbers)
+
+
+def answers(limit, work, lent, pattern, block):
+    """What the forward pass, the start-by-start pass and measure give."""
     code, place, duration, variables, conditions = check_pattern(pattern)
     if code:
-        return both(code, place)
+        return [refused(code, place)] * 3
     code, place, _ = check_block(block)
     if code:
-        return both(code, place)
+        return [refused(code, place)] * 3
     records = [fields(block[i : i + 16], RECORD) for i in range(0, len(block), 16)]
-    over, lines = Rule(duration, variables, conditions, records).report()
-    if over is not None:
-        return both(9, over)
-    numbers = pack(lines)
-    measured = (0, 0, min(len(numbers), MOST_COUNTED), min(len(lines), MOST_COUNTED), 0)
-    if len(numbers) > room:
-        return (11, 0, 0, 0, 0), [0] * room, measured
-    return (0, 0, len(numbers), len(lines), 0), numbers + [0] * (room - len(numbers)), measured
+    rule = Rule(duration, variables, conditions, records)
+    return [forward(rule, limit, work, lent // 2), start_by_start(rule, lent // 2), measure(rule)]
 
 
-def line_of(row):
+def lines_of(row):
     if row.startswith("#"):
-        return row
-    lent, pattern, block = (row.split(" ") + [""])[:3]
-    lent = int(lent)
-    answer, numbers, measured = answers(lent, bytes.fromhex(pattern), bytes.fromhex(block))
-    words = "".join(f" {number}" for number in numbers) + (" left 0" if lent % 2 else "")
-    return f"{' '.join(map(str, answer))} |{words} | {' '.join(map(str, measured))}"
+        return [row]
+    limit, work, lent, pattern, block = row.split(" ")
+    limit, work, lent = int(limit), int(work), int(lent)
+    ahead, starts, measured = answers(limit, work, lent, bytes.fromhex(pattern), bytes.fromhex(block))
+
+    def told(answer):
+        return " ".join(map(str, answer))
+
+    def result(numbers):
+        padded = numbers + [0] * (lent // 2 - len(numbers))
+        return " |" + "".join(f" {number}" for number in padded) + (" left 0" if lent % 2 else "")
+
+    return [
+        f"forward {told(ahead[0])}{result(ahead[1])} | work {work} 0",
+        f"start by start {told(starts[0])}{result(starts[1])}",
+        f"measure {told(measured[0])}",
+    ]
 
 
 # ---- The table ----
@@ -168,9 +205,12 @@ def joined(digits):
     return digits.replace(" ", "")
 
 
-def case(lent, pattern, records):
-    """A row: the hex digits of the records stand together, as those of the pattern do."""
-    return f"{lent} {joined(pattern)} {joined(''.join(records))}"
+def case(lent, pattern, records, limit=MOST_LIVE, work=None):
+    """A row, with as much working memory as the limit needs unless it is given. The hex digits of the records stand
+    together, as those of the pattern do."""
+    work = WORK_PER_READING * limit if work is None else work
+    assert limit < 100000 and work <= 65536 and lent <= 4096, "the program has so much room"
+    return f"{limit} {work} {lent} {joined(pattern)} {joined(''.join(records))}"
 
 
 def steps(n, **rest):
@@ -179,6 +219,7 @@ def steps(n, **rest):
 
 BENCH = joined(BENCH_PATTERN.removeprefix("pattern"))
 BENCH_RECORDS = joined(BENCH_BLOCK.removeprefix("block"))
+P1 = [12292, 0, 4098, 4099, 8196, 8196, 4104, 9, 4106, 8203, 8195, 9, 4106, 8203]
 GROUP = plain((1, 1), duration=1000)
 TWO_GROUPS = plain((1, 1), (2, 0), conditions=(condition(0, 2, 0, 0), condition(1, 2, 0, 2)), duration=1000)
 BINDS = [event(10 * i + 10) for i in range(32)]
@@ -190,29 +231,165 @@ THREE = plain((1, 0), (1, 0), (1, 0), conditions=(condition(0, 2, 0, 0), conditi
 GREEDY = plain((1, 1), (2, 0), conditions=(condition(0, 2, 0, 1), condition(1, 2, 0, 2), condition(1, 0, 0, second=(0, 0))))
 EDGES = (0, 1, 0x7FFFFFFF, 0x80000000, 0xFFFFFFFF)
 
-TABLE = [
-    "# The bench block: with the room it needs, one number too short, one byte more, none at all, and far more than it needs",
-    case(28, BENCH, [BENCH_RECORDS]),
-    case(26, BENCH, [BENCH_RECORDS]),
+ONE = plain((1, 0))
+BRIEF = plain((1, 0), duration=5)
+BIND_DRAW = plain((1, 0), (2, 0), conditions=(condition(0, 2, 0, 0), condition(1, 2, 0, 2)))
+BIND_DRAWS = plain((1, 0), (2, 1), conditions=(condition(0, 2, 0, 0), condition(1, 2, 0, 2)))
+SPAN = [event(10, 1, 3), event(20, 1, 17), event(30, 1, 33)]
+STAYS = [event(10), event(20, event_type=33), event(30, event_type=200), event(40, event_type=200), event(50)]
+AGAIN = [event(10), gap(11)] + [event(20 + i) for i in range(33)]
+THRICE = [event(10), event(20), event(30)]
+
+# Variables of which no two can be bound together: each event begins four readings, and all stay live
+APART = plain(*[(1, 0)] * 4, conditions=[condition(u, 3, 1, second=(v, 3)) for v in range(4) for u in range(v)])
+
+# A user mark fires both variables, so that each live reading becomes two
+BIND_OR_MARK = plain((1, 1), (1, 0), conditions=(condition(1, 2, 0, 5),))
+MARK = event(60, event_type=200)
+
+# At record 34 the reading of core 5 closes, and that of core 6 would take a 33rd binding
+CORES = plain((1, 0), (2, 1), conditions=(condition(0, 2, 0, 0), condition(1, 2, 0, 1), condition(1, 0, 0, second=(0, 0))))
+CORE_5 = [event(10, 5), event(11, 5, 17)]
+CORE_6 = [event(12, 6)] + [event(13 + i, 6, 17) for i in range(31)] + [event(111, 6, 17)]
+
+# At record 2 the reading of record 0 closes, and four are live after it
+CLOSE_FOUR = plain((1, 0), (1, 0), conditions=(condition(0, 2, 0, 0),), duration=5)
+FOUR_LIVE = [event(10, event_type=17), event(11), event(16)]
+
+DOCUMENT = [
+    "# P1 and P3: the bench block with L 5, a limit met exactly; its result is longer than it needs",
+    case(60, BENCH, [BENCH_RECORDS], limit=5),
+    "# P4: L 4 is 10 at record 5",
+    case(60, BENCH, [BENCH_RECORDS], limit=4),
+    "# P5: a result of 14 numbers fits",
+    case(28, BENCH, [BENCH_RECORDS], limit=5),
+    "# P6: 13 is 11",
+    case(26, BENCH, [BENCH_RECORDS], limit=5),
+    "# P7: no records",
+    case(8, BENCH, []),
+    "# P8: one variable, one event, duration 0, no conditions",
+    case(8, plain((1, 0), duration=0), [event(10)], limit=1),
+    "# P9: sets {0} and {1}, events at 10 and 110",
+    case(8, plain((1, 0), (2, 0)), [event(10), event(110)]),
+    "# P10: at 10 and 111",
+    case(8, plain((1, 0), (2, 0)), [event(10), event(111)]),
+]
+
+LENT = [
+    "# A result of odd length, whose left-over byte is 0: with one number too few, with enough, with far more, with no number",
     case(27, BENCH, [BENCH_RECORDS]),
     case(29, BENCH, [BENCH_RECORDS]),
-    case(0, BENCH, [BENCH_RECORDS]),
     case(61, BENCH, [BENCH_RECORDS]),
+    case(1, BENCH, [BENCH_RECORDS]),
+    "# No result at all: too short for three readings, and enough for none",
+    case(0, BENCH, [BENCH_RECORDS]),
+    case(0, BENCH, SPAN[:2]),
+    "# Working memory longer than L 5 needs: by one byte, and by 64,736",
+    case(28, BENCH, [BENCH_RECORDS], limit=5, work=801),
+    case(28, BENCH, [BENCH_RECORDS], limit=5, work=65536),
+    "# Working memory longer than needed, with a refusal of the pass, and with one of the pattern",
+    case(28, BENCH, [BENCH_RECORDS], limit=4, work=801),
+    case(28, BENCH[:-2], [BENCH_RECORDS], limit=5, work=801),
+    "# L 256 met exactly, by 64 events that begin four readings each; one event more is 10 at record 64",
+    case(8, APART, steps(64), limit=256),
+    case(8, APART, steps(65), limit=256),
+    "# L 255 is 10 at record 63",
+    case(8, APART, steps(64), limit=255),
+]
+
+REFUSED = [
+    "# 1: no bytes, seven bytes, a byte too few",
+    case(9, "", [BENCH_RECORDS]),
+    case(9, BENCH[:14], [BENCH_RECORDS]),
+    case(9, BENCH[:-2], [BENCH_RECORDS]),
+    "# 2: edition 2, and the block broken too",
+    case(6, "23" + BENCH[2:], [BENCH_RECORDS[:-2]]),
+    "# 3 at variable 1: its set is 3",
+    case(6, plain((1, 0), (3, 0)), THRICE),
+    "# 4 at condition 2: its operator is 5",
+    case(6, plain((1, 0), conditions=(condition(0, 0, 0), condition(0, 0, 4), condition(0, 0, 5))), THRICE),
+    "# 5: a byte too few",
+    case(6, BENCH, [BENCH_RECORDS[:-2]]),
+    "# 6 at record 1: kind 2; the next record is late",
+    case(5, BENCH, [event(10), event(20, kind=2), event(15)]),
+    "# 7 at record 1: equal times; and at record 2, a gap that falls",
+    case(6, BENCH, [event(10), event(10)]),
+    case(6, BENCH, [event(10), event(20), gap(15)]),
+    "# 8: L 0 with working memory, L 0 with none, L 257, L 65,537 (its low 16 bits are 1)",
+    case(28, BENCH, [BENCH_RECORDS], limit=0, work=40960),
+    case(28, BENCH, [BENCH_RECORDS], limit=0),
+    case(28, BENCH, [BENCH_RECORDS], limit=257),
+    case(28, BENCH, [BENCH_RECORDS], limit=65537, work=65536),
+    "# 8: working memory one byte short of L 5, of L 1 and of L 256; none at all",
+    case(29, BENCH, [BENCH_RECORDS], limit=5, work=799),
+    case(28, BENCH, [BENCH_RECORDS], limit=1, work=159),
+    case(28, BENCH, [BENCH_RECORDS], limit=256, work=40959),
+    case(28, BENCH, [BENCH_RECORDS], limit=5, work=0),
+    "# 8 after 4, and after 7: pattern or block broken, L 257 and no working memory",
+    case(6, plain((1, 0), conditions=(condition(0, 0, 5),)), THRICE, limit=257, work=0),
+    case(6, BENCH, [event(10), event(10)], limit=257, work=0),
+    "# 8 before the pass: L 0 or working memory short, where the pass would give 9, 10 or 11",
+    case(4, GROUP, steps(33), limit=0),
+    case(28, BENCH, [BENCH_RECORDS], limit=4, work=639),
+    case(0, BENCH, [BENCH_RECORDS], limit=5, work=799),
+    "# 9 at record 32, a 33rd binding; 10 at record 31 before it, with L 31",
+    case(40, GROUP, steps(33), limit=33),
+    case(40, GROUP, steps(33), limit=31),
+    "# 9 before 10 at one record: a 33rd binding at record 32, and far more than L 32 live; one bind fewer, and it is 10",
+    case(40, BIND_OR_MARK, steps(32) + [MARK], limit=32),
+    case(40, BIND_OR_MARK, steps(31) + [MARK], limit=32),
+    "# 10 at record 5 before an 11 at record 6, and 11 at record 6, a gap, with L 5",
+    case(8, BENCH, [BENCH_RECORDS], limit=4),
+    case(8, BENCH, [BENCH_RECORDS], limit=5),
+    "# 11 at the end of the block: the last reading does not fit",
+    case(20, BENCH, [BENCH_RECORDS], limit=5),
+    "# 11 before a later 9: one number at a gap, then a 33rd binding; with two numbers, 9 at record 34",
+    case(2, GROUP, AGAIN),
+    case(4, GROUP, AGAIN),
+    "# 11 before a later 10: one number at a gap, then two live with L 1; with two numbers, 10 at record 3",
+    case(2, ONE, [event(10), gap(11), event(20), event(30)], limit=1),
+    case(4, ONE, [event(10), gap(11), event(20), event(30)], limit=1),
+    "# The same past the window and with no gap: 11, and 10 at record 2",
+    case(2, BRIEF, [event(10), event(20), event(21)], limit=1),
+    case(4, BRIEF, [event(10), event(20), event(21)], limit=1),
+    "# 11 before 9 at one record, since closings come first; with room for what closes, 9 at record 34",
+    case(4, CORES, CORE_5 + CORE_6),
+    case(6, CORES, CORE_5 + CORE_6),
+    "# 11 before 10 at one record; with room for what closes, 10 at record 2",
+    case(4, CLOSE_FOUR, FOUR_LIVE, limit=3),
+    case(6, CLOSE_FOUR, FOUR_LIVE, limit=3),
+]
+
+LIVE = [
+    "# A full reading stays live across records that fire nothing: L 2 has room for the next start, L 1 is 10 at record 4",
+    case(16, BIND_DRAW, STAYS, limit=2),
+    case(16, BIND_DRAW, STAYS, limit=1),
+    "# A full reading stays live and takes the next event of its group",
+    case(16, BIND_DRAWS, STAYS[:4] + [event(50, event_type=33), event(60, event_type=200)], limit=1),
+    "# Readings that close make room: 20 events, six of them within a duration of 5; L 5 is 10 at record 5",
+    case(80, BRIEF, steps(20), limit=6),
+    case(80, BRIEF, steps(20), limit=5),
+    "# After a gap nothing is live: three events on each side, with L 3",
+    case(40, ONE, THRICE + [gap(40), event(50), event(60), event(70)], limit=3),
+    "# A gap past the window: mark 3; an event past it: mark 1; the end: mark 2",
+    case(40, BENCH, SPAN + [gap(500)]),
+    case(40, BENCH, SPAN + [event(500, 1, 200)]),
+    case(40, BENCH, SPAN),
+    "# Equal first records, in order of the variables: each event opens both",
+    case(60, plain((1, 0), (1, 0)), THRICE),
+    case(200, plain((1, 1), (1, 0)), THRICE),
+]
+
+RULE = [
     "# The bench block without its gap, and with a gap between all records",
     case(60, BENCH, [BENCH_RECORDS[: 6 * 32], BENCH_RECORDS[7 * 32 :]]),
     case(60, BENCH, [event(10, 1, 3), gap(15), event(20, 1, 17), gap(25), event(30, 1, 33)]),
-    "# The same block before and after a gap is put in, and with the gap past the window",
-    case(40, BENCH, [event(10, 1, 3), event(20, 1, 17), event(30, 1, 33), event(40, 1, 17)]),
-    case(40, BENCH, [event(10, 1, 3), event(20, 1, 17), event(30, 1, 33), gap(35), event(40, 1, 17)]),
-    case(40, BENCH, [event(10, 1, 3), event(20, 1, 17), gap(25), event(30, 1, 33), event(40, 1, 17)]),
-    case(40, BENCH, [event(10, 1, 3), event(20, 1, 17), event(30, 1, 33), gap(500)]),
-    "# An empty block, and gaps only",
-    case(8, BENCH, []),
+    "# The same block before and after a gap is put in",
+    case(40, BENCH, SPAN + [event(40, 1, 17)]),
+    case(40, BENCH, SPAN + [gap(35), event(40, 1, 17)]),
+    case(40, BENCH, SPAN[:2] + [gap(25), event(30, 1, 33), event(40, 1, 17)]),
+    "# Gaps only",
     case(8, BENCH, [gap(10), gap(20, 9), gap(30)]),
-    "# One variable, one event (P8); two sets at 10 and 110 (P9), and at 10 and 111 (P10)",
-    case(8, plain((1, 0), duration=0), [event(10)]),
-    case(8, plain((1, 0), (2, 0)), [event(10), event(110)]),
-    case(8, plain((1, 0), (2, 0)), [event(10), event(111)]),
     "# The window: the last record within it, and one past it that begins readings of its own",
     case(16, plain((1, 0), duration=0), [event(10), event(11), event(12)]),
     case(26, plain((1, 0), (1, 0), duration=5), [event(10), event(15), event(16)]),
@@ -225,13 +402,10 @@ TABLE = [
     case(41, TWO_GROUPS, BINDS + [DRAW]),
     case(1300, TWO_GROUPS, BINDS[1:] + [DRAW]),
     case(1300, TWO_GROUPS, BINDS[1:] + [DRAW, LATE_BIND, LATE_DRAW]),
-    "# 9 is looked for over the whole block, and comes before 11; the least such record, of several starts",
+    "# The start-by-start pass looks for 9 over the whole block, before 11; the least such record, of several starts",
     case(0, GROUP, steps(33)),
     case(0, GROUP, steps(32)),
     case(4, TWO_GROUPS, [gap(5)] + BINDS + [DRAW, LATE_BIND]),
-    "# Variables without conditions: each event opens both, in order of the variables",
-    case(60, plain((1, 0), (1, 0)), [event(10), event(20), event(30)]),
-    case(200, plain((1, 1), (1, 0)), [event(10), event(20), event(30)]),
     "# The first that fails settles it: a join that holds for one binding and not for another",
     case(60, plain((1, 1), (2, 0), conditions=(condition(0, 2, 0, 0), condition(1, 2, 0, 2), condition(1, 3, 4, second=(0, 3)))), [event(10, slot=5), event(20, slot=7), event(30, event_type=33, slot=6), event(40, event_type=33, slot=7)]),
     "# One automaton and not one for each ordering: of c p d p in {c, d, p} the first p is bound, so c d p is no reading",
@@ -246,22 +420,21 @@ TABLE = [
     *(case(20, plain((1, 0), duration=0, conditions=(condition(0, 4, 4, 0x80000000),)), [event(10, amount=a)]) for a in EDGES),
     *(case(20, plain((1, 0), duration=0, conditions=(condition(0, 3, 4, 0x80000000),)), [event(10, slot=a)]) for a in EDGES),
     *(case(20, plain((1, 0), duration=0, conditions=(condition(0, 3, 3, second=(0, 4)),)), [event(10, slot=0x7FFFFFFF, amount=a)]) for a in EDGES),
-    "# The input is refused before all: pattern, then block",
-    case(9, BENCH[:-2], [BENCH_RECORDS]),
-    case(6, "23" + BENCH[2:], [BENCH_RECORDS[:-2]]),
-    case(6, BENCH, [BENCH_RECORDS[:-2]]),
-    case(6, BENCH, [event(10), event(10)]),
-    case(5, BENCH, [event(10), event(20, kind=2), event(15)]),
 ]
+
+TABLE = DOCUMENT + LENT + REFUSED + LIVE + RULE
 
 # ---- Writing ----
 
 
 def write(folder):
-    lines = [line_of(row) for row in TABLE]
+    lines = [lines_of(row) for row in TABLE]
+    assert answers(5, 800, 28, bytes.fromhex(BENCH), bytes.fromhex(BENCH_RECORDS))[0] == ((0, 0, 14, 3, 5), P1)
+    codes = {told[0].split(" ")[1] for told in lines if len(told) == 3}
+    assert codes == {str(code) for code in range(12)}, "the forward pass gives each refusal 1 to 11, and success"
     table = "".join(row + "\n" for row in TABLE)
     assert len(table) <= 65536, "the program reads so much"
-    for name, text in ("stdin", table), ("stdout", "".join(line + "\n" for line in lines)):
+    for name, text in ("stdin", table), ("stdout", "".join(line + "\n" for told in lines for line in told)):
         with open(os.path.join(folder, name), "w", encoding="ascii") as file:
             file.write(text)
 
@@ -271,4 +444,4 @@ if __name__ == "__main__":
         write(os.path.join(os.path.dirname(os.path.abspath(__file__)), "..", "crates", "passes"))
     else:
         for row in sys.stdin:
-            print(line_of(row.rstrip("\n")))
+            print("\n".join(lines_of(row.rstrip("\n"))))

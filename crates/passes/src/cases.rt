@@ -1,47 +1,107 @@
-// One case. What is written of it: code, place, used, readings and peak of the pass; every number of the result, and its
-// left-over byte where there is one; the same five of measure.
+// One case, a line of each call. What is written: code, place, used, readings and peak; of a pass every number of the
+// result, and its left-over byte where there is one; of the forward pass how many bytes of working memory are not 0 before
+// the call, and how many after it.
+ghost use Prim.Native.Nat.{_≤_};
 ghost use lib.ListN.{length};
 use crate::text;
 use records::Answer;
 
-// What a byte of the result is before the call.
+// What a byte of lent memory is before the call.
 const UNTOUCHED: u8 = 170;
 
 // The room for a pattern, a block and a result.
 const ROOM: usize = 4096;
 
+// The room for working memory: more than a limit of 256 needs.
+const WORK_ROOM: usize = 65536;
+
 pub(crate) fn case_row(row: &[u8]) {
-    let pattern_at = text::next_word(row, 0);
+    let work_at = text::next_word(row, 0);
+    let lent_at = text::next_word(row, work_at);
+    let pattern_at = text::next_word(row, lent_at);
     let block_at = text::next_word(row, pattern_at);
     let mut pattern = io::buffer();
     let mut block = io::buffer();
+    let mut work = io::large_buffer();
     let mut result = io::buffer();
     let n = text::hex_bytes(row, pattern_at, &mut pattern);
     let m = text::hex_bytes(row, block_at, &mut block);
-    let lent = text::least(text::number(row, 0), ROOM);
-    run(&pattern[0..n], &block[0..m], &mut result[0..lent]);
+    let limit = text::number(row, 0) as u32;
+    let lent_work = text::least(text::number(row, work_at), WORK_ROOM);
+    let lent = text::least(text::number(row, lent_at), ROOM);
+    run(
+        &pattern[0..n],
+        &block[0..m],
+        limit,
+        &mut work[0..lent_work],
+        &mut result[0..lent],
+    );
 }
 
-fn run(pattern: &[u8], block: &[u8], result: &mut [u8]) {
+fn run(pattern: &[u8], block: &[u8], limit: u32, work: &mut [u8], result: &mut [u8]) {
+    run_forward(pattern, block, limit, work, result);
+    run_starts(pattern, block, result);
+    run_measure(pattern, block);
+}
+
+fn run_forward(pattern: &[u8], block: &[u8], limit: u32, work: &mut [u8], result: &mut [u8]) {
+    soil(work);
     soil(result);
+    let before = count_set(work);
+    text::put(b"forward ");
+    put_answer(forward::forward(pattern, block, limit, work, result));
+    put_result(result);
+    text::put(b" | work ");
+    text::put_number(before);
+    text::put(b" ");
+    text::put_number(count_set(work));
+    text::put(b"\n");
+}
+
+fn run_starts(pattern: &[u8], block: &[u8], result: &mut [u8]) {
+    soil(result);
+    text::put(b"start by start ");
     put_answer(starts::start_by_start(pattern, block, result));
     put_result(result);
-    text::put(b" | ");
-    put_answer(starts::measure(pattern, block));
+    text::put(b"\n");
 }
 
-fn soil(result: &mut [u8]) {
+fn run_measure(pattern: &[u8], block: &[u8]) {
+    text::put(b"measure ");
+    put_answer(starts::measure(pattern, block));
+    text::put(b"\n");
+}
+
+fn soil(memory: &mut [u8]) {
     let mut i = 0;
-    while i < result.len() {
-        set(result, i);
+    while i < memory.len() {
+        set(memory, i);
         i += 1;
     }
 }
 
-fn set(result: &mut [u8], i: usize) {
-    if i < result.len() {
-        result[i] = UNTOUCHED;
+fn set(memory: &mut [u8], i: usize) {
+    if i < memory.len() {
+        memory[i] = UNTOUCHED;
     }
+}
+
+// How many bytes are not 0.
+fn count_set(memory: &[u8]) -> u64 {
+    let mut count: u64 = 0;
+    let mut i = 0;
+    while i < memory.len() {
+        count += one_if_set(memory[i]);
+        i += 1;
+    }
+    count
+}
+
+// 1 where the byte is not 0.
+fn one_if_set(byte: u8) -> u64
+    ensures { λ r. ⌜ r ≤ 1 ⌝ }
+{
+    if byte == 0 { 0 } else { 1 }
 }
 
 fn put_result(result: &[u8]) {

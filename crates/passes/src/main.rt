@@ -1,7 +1,8 @@
-// Runs the start-by-start pass and measure on the cases of a table, and writes what they answer.
+// Runs the forward pass, the start-by-start pass and measure on the cases of a table, and writes what they answer.
 //
 // Standard input is the table, a case to a row:
-//   LENT PATTERN BLOCK    the bytes of the lent result, as a number, then the bytes of pattern and block in hex digits
+//   LIMIT WORK LENT PATTERN BLOCK    the limit, and how many bytes of working memory and of the result are lent, as
+//                                    numbers; then the bytes of pattern and block in hex digits
 // A row that begins with # is written as it is.
 mod cases;
 mod text;
@@ -25,8 +26,12 @@ fn rows(table: &[u8]) {
 
 fn row(row: &[u8]) {
     match text::first(row) {
-        b'#' => text::put(row),
+        b'#' => put_line(row),
         _ => cases::case_row(row),
     }
+}
+
+fn put_line(row: &[u8]) {
+    text::put(row);
     text::put(b"\n");
 }

@@ -1,4 +1,4 @@
--- `passes::cases::soil` is safe and ends: the measure is what is left of the result. Assumes nothing.
+-- `passes::cases::soil` is safe and ends: the measure is what is left of the memory. Assumes nothing.
 use borrow.Author.Needs.{needs}
 use Prim.Native.Nat.{_-_}
 use mathlib.Core.Path.{_≡_}
@@ -7,10 +7,10 @@ use Rattle.passes.proofs.cases.soil.Statement.{statement}
 use Rattle.passes.proofs.cases.soil.Tie as tie
 
 abbrev Inv-loop : tie.InvT-loop
-Inv-loop result₀ i₀ result i = length result ≡ length result₀
+Inv-loop memory₀ i₀ memory i = length memory ≡ length memory₀
 
 abbrev μ-loop : tie.MeasureT-loop
-μ-loop result₀ i₀ result i = length result - i
+μ-loop memory₀ i₀ memory i = length memory - i
 
 loop-holds : tie.Need-loop-holds Inv-loop μ-loop
 loop-holds c = search needs
