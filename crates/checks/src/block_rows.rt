@@ -2,7 +2,6 @@
 ghost use mathlib.Core.Path.{_≡_};
 ghost use Prim.Native.Nat.{_<_};
 ghost use lib.ListN.{length};
-use crate::text;
 use records::Answer;
 
 const RECORD_BYTES: usize = 16;
@@ -12,24 +11,25 @@ const ROOM: usize = 65600;
 
 pub(crate) fn block_row(row: &[u8]) {
     let mut block = io::buffer();
-    let n = text::hex_bytes(row, &mut block);
+    let at = tables::next_word(row, 0);
+    let n = tables::hex_bytes(&row[at..], &mut block);
     put_answer(records::check_block(&block[0..n]));
 }
 
 pub(crate) fn events_row(row: &[u8]) {
-    let n_at = text::next_word(row, 0);
-    let extra_at = text::next_word(row, n_at);
-    let place_at = text::next_word(row, extra_at);
-    let byte_at = text::next_word(row, place_at);
-    let n = text::number(row, n_at);
+    let n_at = tables::next_word(row, 0);
+    let extra_at = tables::next_word(row, n_at);
+    let place_at = tables::next_word(row, extra_at);
+    let byte_at = tables::next_word(row, place_at);
+    let n = tables::number(row, n_at);
     let mut block = room();
     set_times(&mut block, n);
     set(
         &mut block,
-        text::number(row, place_at),
-        text::number(row, byte_at),
+        tables::number(row, place_at),
+        tables::number(row, byte_at),
     );
-    let length = text::least(RECORD_BYTES * n + text::number(row, extra_at), ROOM);
+    let length = tables::least(RECORD_BYTES * n + tables::number(row, extra_at), ROOM);
     put_answer(records::check_block(&block[0..length]));
 }
 
@@ -59,9 +59,9 @@ fn set(block: &mut [u8], place: usize, value: usize) {
 }
 
 fn put_answer(answer: Answer) {
-    text::put_number(answer.code as u64);
-    text::put(b" ");
-    text::put_number(answer.place as u64);
-    text::put(b" ");
-    text::put_number(answer.used as u64);
+    tables::put_number(answer.code as u64);
+    tables::put(b" ");
+    tables::put_number(answer.place as u64);
+    tables::put(b" ");
+    tables::put_number(answer.used as u64);
 }

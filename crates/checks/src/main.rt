@@ -8,7 +8,6 @@
 // Any other row, as one that begins with #, is written as it is.
 mod block_rows;
 mod pattern_rows;
-mod text;
 
 use libc::STDIN_FILENO;
 
@@ -21,18 +20,18 @@ fn main() {
 fn rows(table: &[u8]) {
     let mut at = 0;
     while at < table.len() {
-        let end = text::line_end(table, at);
+        let end = tables::line_end(table, at);
         row(&table[at..end]);
         at = end + 1;
     }
 }
 
 fn row(row: &[u8]) {
-    match text::first(row) {
+    match tables::first(row) {
         b'b' => block_rows::block_row(row),
         b'e' => block_rows::events_row(row),
         b'p' => pattern_rows::pattern_row(row),
-        _ => text::put(row),
+        _ => tables::put(row),
     }
-    text::put(b"\n");
+    tables::put(b"\n");
 }

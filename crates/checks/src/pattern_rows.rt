@@ -2,7 +2,6 @@
 // (of a refused pattern, whose counts are 0, these are all its places). Then of each variable the set number, with a + for
 // a group variable, and of each condition variable.attribute, operator, form, second variable.second attribute, constant.
 ghost use Prim.Native.Nat.{_<_};
-use crate::text;
 use patterns::Checked;
 use patterns::Condition;
 use patterns::Pattern;
@@ -13,21 +12,22 @@ const MOST_CONDITIONS: usize = 32;
 
 pub(crate) fn pattern_row(row: &[u8]) {
     let mut pattern = io::buffer();
-    let n = text::hex_bytes(row, &mut pattern);
+    let at = tables::next_word(row, 0);
+    let n = tables::hex_bytes(&row[at..], &mut pattern);
     put_checked(patterns::check_pattern(&pattern[0..n]));
 }
 
 fn put_checked(checked: Checked) {
     let p = checked.pattern;
-    text::put_number(checked.code as u64);
-    text::put(b" ");
-    text::put_number(checked.place as u64);
-    text::put(b" ");
-    text::put_number(p.n as u64);
-    text::put(b" ");
-    text::put_number(p.c as u64);
-    text::put(b" ");
-    text::put_number(p.duration);
+    tables::put_number(checked.code as u64);
+    tables::put(b" ");
+    tables::put_number(checked.place as u64);
+    tables::put(b" ");
+    tables::put_number(p.n as u64);
+    tables::put(b" ");
+    tables::put_number(p.c as u64);
+    tables::put(b" ");
+    tables::put_number(p.duration);
     put_rest(p);
     put_variables(p);
     put_conditions(p);
@@ -36,11 +36,11 @@ fn put_checked(checked: Checked) {
 fn put_rest(p: Pattern) {
     if no_more_variables(p) {
         if no_more_conditions(p) {
-            text::put(b" rest 0");
+            tables::put(b" rest 0");
             return;
         }
     }
-    text::put(b" rest not 0");
+    tables::put(b" rest not 0");
 }
 
 // Whether all places of variables from n on are 0.
@@ -116,7 +116,7 @@ fn condition(p: Pattern, i: usize) -> Condition
 }
 
 fn put_variables(p: Pattern) {
-    let n = text::least(p.n, MOST_VARIABLES);
+    let n = tables::least(p.n, MOST_VARIABLES);
     let mut v = 0;
     while v < n {
         put_variable(p, v);
@@ -128,17 +128,17 @@ fn put_variable(p: Pattern, v: usize)
     requires { ⌜ v < 12 ⌝ }
 {
     if v == 0 {
-        text::put(b":");
+        tables::put(b":");
     }
-    text::put(b" ");
-    text::put_number(p.sets[v] as u64);
+    tables::put(b" ");
+    tables::put_number(p.sets[v] as u64);
     if p.groups[v] {
-        text::put(b"+");
+        tables::put(b"+");
     }
 }
 
 fn put_conditions(p: Pattern) {
-    let c = text::least(p.c, MOST_CONDITIONS);
+    let c = tables::least(p.c, MOST_CONDITIONS);
     let mut i = 0;
     while i < c {
         put_condition(condition(p, i));
@@ -147,20 +147,20 @@ fn put_conditions(p: Pattern) {
 }
 
 fn put_condition(k: Condition) {
-    text::put(b"; ");
+    tables::put(b"; ");
     put_side(k.variable, k.attribute);
-    text::put(b" ");
-    text::put_number(k.operator as u64);
-    text::put(b" ");
-    text::put_number(k.form as u64);
-    text::put(b" ");
+    tables::put(b" ");
+    tables::put_number(k.operator as u64);
+    tables::put(b" ");
+    tables::put_number(k.form as u64);
+    tables::put(b" ");
     put_side(k.variable2, k.attribute2);
-    text::put(b" ");
-    text::put_number(k.constant as u64);
+    tables::put(b" ");
+    tables::put_number(k.constant as u64);
 }
 
 fn put_side(variable: u8, attribute: u8) {
-    text::put_number(variable as u64);
-    text::put(b".");
-    text::put_number(attribute as u64);
+    tables::put_number(variable as u64);
+    tables::put(b".");
+    tables::put_number(attribute as u64);
 }

@@ -2,7 +2,6 @@
 ghost use mathlib.Core.Path.{_≡_};
 ghost use Prim.Native.Nat.{_<_};
 ghost use lib.ListN.{length};
-use crate::text;
 use records::Answer;
 
 const STEP_BYTES: usize = 8;
@@ -150,8 +149,8 @@ pub(crate) fn list(title: &[u8], pattern: &[u8], lent: usize) {
 
 fn list_into(title: &[u8], pattern: &[u8], slice: &mut [u8]) {
     let answer = automaton::list_automaton(pattern, slice);
-    text::put(title);
-    text::put(b"\n");
+    tables::put(title);
+    tables::put(b"\n");
     put_answer(answer);
     put_checksum(slice);
     if slice.len() <= SHORT {
@@ -166,22 +165,22 @@ fn slice() -> [u8; 6400]
 }
 
 fn put_answer(answer: Answer) {
-    text::put_number(answer.code as u64);
-    text::put(b" ");
-    text::put_number(answer.place as u64);
-    text::put(b" ");
-    text::put_number(answer.used);
-    text::put(b" ");
-    text::put_number(answer.readings);
-    text::put(b" ");
-    text::put_number(answer.peak as u64);
-    text::put(b"\n");
+    tables::put_number(answer.code as u64);
+    tables::put(b" ");
+    tables::put_number(answer.place as u64);
+    tables::put(b" ");
+    tables::put_number(answer.used);
+    tables::put(b" ");
+    tables::put_number(answer.readings);
+    tables::put(b" ");
+    tables::put_number(answer.peak as u64);
+    tables::put(b"\n");
 }
 
 fn put_checksum(slice: &[u8]) {
-    text::put(b"checksum ");
-    text::put_number(checksum(slice));
-    text::put(b"\n");
+    tables::put(b"checksum ");
+    tables::put_number(checksum(slice));
+    tables::put(b"\n");
 }
 
 fn checksum(slice: &[u8]) -> u64 {
@@ -208,11 +207,11 @@ fn put_next(slice: &[u8], at: usize) -> usize
     ensures { λ r. ⌜ at < r ⌝ }
 {
     if slice.len() - at < STEP_BYTES {
-        text::put_number(numbers::byte(slice, at) as u64);
-        text::put(b"\n");
+        tables::put_number(numbers::byte(slice, at) as u64);
+        tables::put(b"\n");
         return at + 1;
     }
-    text::put_word(numbers::number8(slice, at));
-    text::put(b"\n");
+    tables::put_word(numbers::number8(slice, at));
+    tables::put(b"\n");
     at + STEP_BYTES
 }

@@ -4,7 +4,6 @@
 // most 256 bytes each eight bytes as one number in hex, and then the left-over bytes in decimal. Every byte of the slice
 // is 255 before the call. tests/listings_model.py has the same cases, and says what must be written.
 mod cases;
-mod text;
 
 fn main() {
     bench();

@@ -3,7 +3,6 @@
 // the call, and how many after it.
 ghost use Prim.Native.Nat.{_≤_};
 ghost use lib.ListN.{length};
-use crate::text;
 use records::Answer;
 
 // What a byte of lent memory is before the call.
@@ -16,19 +15,19 @@ const ROOM: usize = 4096;
 const WORK_ROOM: usize = 65536;
 
 pub(crate) fn case_row(row: &[u8]) {
-    let work_at = text::next_word(row, 0);
-    let lent_at = text::next_word(row, work_at);
-    let pattern_at = text::next_word(row, lent_at);
-    let block_at = text::next_word(row, pattern_at);
+    let work_at = tables::next_word(row, 0);
+    let lent_at = tables::next_word(row, work_at);
+    let pattern_at = tables::next_word(row, lent_at);
+    let block_at = tables::next_word(row, pattern_at);
     let mut pattern = io::buffer();
     let mut block = io::buffer();
     let mut work = io::large_buffer();
     let mut result = io::buffer();
-    let n = text::hex_bytes(row, pattern_at, &mut pattern);
-    let m = text::hex_bytes(row, block_at, &mut block);
-    let limit = text::number(row, 0) as u32;
-    let lent_work = text::least(text::number(row, work_at), WORK_ROOM);
-    let lent = text::least(text::number(row, lent_at), ROOM);
+    let n = tables::hex_bytes(&row[pattern_at..block_at], &mut pattern);
+    let m = tables::hex_bytes(&row[block_at..], &mut block);
+    let limit = tables::number(row, 0) as u32;
+    let lent_work = tables::least(tables::number(row, work_at), WORK_ROOM);
+    let lent = tables::least(tables::number(row, lent_at), ROOM);
     run(
         &pattern[0..n],
         &block[0..m],
@@ -48,28 +47,28 @@ fn run_forward(pattern: &[u8], block: &[u8], limit: u32, work: &mut [u8], result
     soil(work);
     soil(result);
     let before = count_set(work);
-    text::put(b"forward ");
+    tables::put(b"forward ");
     put_answer(forward::forward(pattern, block, limit, work, result));
     put_result(result);
-    text::put(b" | work ");
-    text::put_number(before);
-    text::put(b" ");
-    text::put_number(count_set(work));
-    text::put(b"\n");
+    tables::put(b" | work ");
+    tables::put_number(before);
+    tables::put(b" ");
+    tables::put_number(count_set(work));
+    tables::put(b"\n");
 }
 
 fn run_starts(pattern: &[u8], block: &[u8], result: &mut [u8]) {
     soil(result);
-    text::put(b"start by start ");
+    tables::put(b"start by start ");
     put_answer(starts::start_by_start(pattern, block, result));
     put_result(result);
-    text::put(b"\n");
+    tables::put(b"\n");
 }
 
 fn run_measure(pattern: &[u8], block: &[u8]) {
-    text::put(b"measure ");
+    tables::put(b"measure ");
     put_answer(starts::measure(pattern, block));
-    text::put(b"\n");
+    tables::put(b"\n");
 }
 
 fn soil(memory: &mut [u8]) {
@@ -105,28 +104,28 @@ fn one_if_set(byte: u8) -> u64
 }
 
 fn put_result(result: &[u8]) {
-    text::put(b" |");
+    tables::put(b" |");
     let room = result.len() / 2;
     let mut i = 0;
     while i < room {
-        text::put(b" ");
-        text::put_number(numbers::number2(result, 2 * i) as u64);
+        tables::put(b" ");
+        tables::put_number(numbers::number2(result, 2 * i) as u64);
         i += 1;
     }
     if result.len() % 2 == 1 {
-        text::put(b" left ");
-        text::put_number(numbers::byte(result, result.len() - 1) as u64);
+        tables::put(b" left ");
+        tables::put_number(numbers::byte(result, result.len() - 1) as u64);
     }
 }
 
 fn put_answer(answer: Answer) {
-    text::put_number(answer.code as u64);
-    text::put(b" ");
-    text::put_number(answer.place as u64);
-    text::put(b" ");
-    text::put_number(answer.used);
-    text::put(b" ");
-    text::put_number(answer.readings);
-    text::put(b" ");
-    text::put_number(answer.peak as u64);
+    tables::put_number(answer.code as u64);
+    tables::put(b" ");
+    tables::put_number(answer.place as u64);
+    tables::put(b" ");
+    tables::put_number(answer.used);
+    tables::put(b" ");
+    tables::put_number(answer.readings);
+    tables::put(b" ");
+    tables::put_number(answer.peak as u64);
 }

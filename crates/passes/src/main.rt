@@ -5,7 +5,6 @@
 //                                    numbers; then the bytes of pattern and block in hex digits
 // A row that begins with # is written as it is.
 mod cases;
-mod text;
 
 use libc::STDIN_FILENO;
 
@@ -18,20 +17,20 @@ fn main() {
 fn rows(table: &[u8]) {
     let mut at = 0;
     while at < table.len() {
-        let end = text::line_end(table, at);
+        let end = tables::line_end(table, at);
         row(&table[at..end]);
         at = end + 1;
     }
 }
 
 fn row(row: &[u8]) {
-    match text::first(row) {
+    match tables::first(row) {
         b'#' => put_line(row),
         _ => cases::case_row(row),
     }
 }
 
 fn put_line(row: &[u8]) {
-    text::put(row);
-    text::put(b"\n");
+    tables::put(row);
+    tables::put(b"\n");
 }

@@ -1,21 +1,24 @@
--- `passes::text::line_end` answers a place from `at` to the table's end. The measure is what is left of the table. Assumes nothing.
+-- `tables::next_word` meets its contract: the place stays inside the row. The measure is what is left of it. Assumes nothing.
 use borrow.Author.Needs.{needs}
-use Prim.Native.Nat.{_≤_, _-_}
+use Prim.Native.Nat.{_-_, _≤_}
 use lib.ListN.{length}
-use Rattle.passes.proofs.text.line_end.Statement.{statement}
-use Rattle.passes.proofs.text.line_end.Tie as tie
+use Rattle.tables.proofs.next_word.Statement.{statement}
+use Rattle.tables.proofs.next_word.Tie as tie
 
 abbrev Inv-loop : tie.InvT-loop
-Inv-loop table at i₀ i = (at ≤ i) × (i ≤ length table)
+Inv-loop row at i₀ i = (at ≤ i) × (i ≤ length row)
 
 abbrev μ-loop : tie.MeasureT-loop
-μ-loop table at i₀ i = length table - i
+μ-loop row at i₀ i = length row - i
 
 loop-holds : tie.Need-loop-holds Inv-loop μ-loop
 loop-holds c = search needs
 
 shared-slice-read-if1 : tie.Need-shared-slice-read-if1 Inv-loop μ-loop
 shared-slice-read-if1 c = search needs
+
+add-result : tie.Need-add-result Inv-loop μ-loop
+add-result c = search needs
 
 returns : tie.Need-returns Inv-loop μ-loop
 returns c = search needs
@@ -32,14 +35,15 @@ loop-again c = search needs
 returns-2 : tie.Need-returns-2 Inv-loop μ-loop
 returns-2 c = search needs
 
-pub line-end-spec : {M : Type 1} → statement M
-line-end-spec =
+pub next-word-spec : {M : Type 1} → statement M
+next-word-spec =
     tie.close
     (tie.spec
     Inv-loop
     μ-loop
     loop-holds
     shared-slice-read-if1
+    add-result
     returns
     add-i
     loop-less

@@ -1,9 +1,9 @@
--- `passes::text::number` stays below 100,000. The measure is what is left of the row. Assumes nothing.
+-- `tables::number` stays below 100,000. The measure is what is left of the row. Assumes nothing.
 use borrow.Author.Needs.{needs}
 use Prim.Native.Nat.{_<_, _-_}
 use lib.ListN.{length}
-use Rattle.passes.proofs.text.number.Statement.{statement}
-use Rattle.passes.proofs.text.number.Tie as tie
+use Rattle.tables.proofs.number.Statement.{statement}
+use Rattle.tables.proofs.number.Tie as tie
 
 abbrev Inv-loop : tie.InvT-loop
 Inv-loop row at value₀ i₀ value i = value < 100000

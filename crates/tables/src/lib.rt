@@ -1,4 +1,4 @@
-// Rows of text: their words, numbers and hex digits, and what is written.
+// Rows of a table of text, for the test programs: their words, numbers and hex digits, and what is written.
 ghost use Prim.Native.Nat.{_*_, _<_, _≤_};
 ghost use lib.ListN.{length};
 use libc::STDOUT_FILENO;
@@ -6,22 +6,27 @@ use libc::STDOUT_FILENO;
 // More than any number of the table.
 const LARGE: usize = 100000;
 
-pub(crate) fn put(text: &[u8]) {
+pub fn put(text: &[u8]) {
     io::write_all(STDOUT_FILENO, text);
 }
 
-pub(crate) fn put_number(n: u64) {
+pub fn put_number(n: u64) {
     io::print_decimal(STDOUT_FILENO, n);
 }
 
-pub(crate) fn least(a: usize, b: usize) -> usize
+// A number as 16 hex digits.
+pub fn put_word(n: u64) {
+    io::print_hex(STDOUT_FILENO, n, 16);
+}
+
+pub fn least(a: usize, b: usize) -> usize
     ensures { λ r. ⌜ r ≤ b ⌝ }
 {
     if a < b { a } else { b }
 }
 
 // Where the line that goes on at a place ends.
-pub(crate) fn line_end(table: &[u8], at: usize) -> usize
+pub fn line_end(table: &[u8], at: usize) -> usize
     requires { ⌜ at ≤ length (now table) ⌝ }
     ensures { λ r. ⌜ (at ≤ r) × (r ≤ length (now (table .entry))) ⌝ }
 {
@@ -36,7 +41,7 @@ pub(crate) fn line_end(table: &[u8], at: usize) -> usize
 }
 
 // The first byte of a row, or 0.
-pub(crate) fn first(row: &[u8]) -> u8 {
+pub fn first(row: &[u8]) -> u8 {
     if row.len() == 0 {
         return 0;
     }
@@ -44,7 +49,10 @@ pub(crate) fn first(row: &[u8]) -> u8 {
 }
 
 // Where the next word begins, or the row's end.
-pub(crate) fn next_word(row: &[u8], at: usize) -> usize {
+pub fn next_word(row: &[u8], at: usize) -> usize
+    requires { ⌜ at ≤ length (now row) ⌝ }
+    ensures { λ r. ⌜ (at ≤ r) × (r ≤ length (now (row .entry))) ⌝ }
+{
     let mut i = at;
     while i < row.len() {
         if row[i] == b' ' {
@@ -67,7 +75,7 @@ fn digit(glyph: u8) -> usize
 }
 
 // The decimal number at a place.
-pub(crate) fn number(row: &[u8], at: usize) -> usize
+pub fn number(row: &[u8], at: usize) -> usize
     ensures { λ r. ⌜ r < 100000 ⌝ }
 {
     let mut value = 0;
@@ -83,17 +91,14 @@ pub(crate) fn number(row: &[u8], at: usize) -> usize
     value
 }
 
-// Puts the bytes that the hex digits of the word at a place make into bytes, which are 0, and answers how many there are.
-pub(crate) fn hex_bytes(row: &[u8], at: usize, bytes: &mut [u8]) -> usize
+// Puts the bytes that the hex digits of a text make into bytes, which are 0, and answers how many there are.
+pub fn hex_bytes(text: &[u8], bytes: &mut [u8]) -> usize
     ensures { λ r. ⌜ r ≤ length (now (bytes .exit)) ⌝ }
 {
     let mut digits = 0;
-    let mut i = at;
-    while i < row.len() {
-        if row[i] == b' ' {
-            return digits / 2;
-        }
-        digits = put_digit(bytes, digits, digit(row[i]));
+    let mut i = 0;
+    while i < text.len() {
+        digits = put_digit(bytes, digits, digit(text[i]));
         i += 1;
     }
     digits / 2

@@ -1,29 +1,20 @@
--- `passes::text::hex_bytes` counts bytes that there is room for: the digits are at most two for each. The measure is what is
--- left of the row. Assumes nothing.
+-- `tables::hex_bytes` counts bytes that there is room for: the digits are at most two for each. The measure is what is
+-- left of the text. Assumes nothing.
 use borrow.Author.Needs.{needs}
 use Prim.Native.Nat.{_*_, _≤_, _-_}
 use mathlib.Core.Path.{_≡_}
 use lib.ListN.{length}
-use Rattle.passes.proofs.text.hex_bytes.Statement.{statement}
-use Rattle.passes.proofs.text.hex_bytes.Tie as tie
+use Rattle.tables.proofs.hex_bytes.Statement.{statement}
+use Rattle.tables.proofs.hex_bytes.Tie as tie
 
 abbrev Inv-loop : tie.InvT-loop
-Inv-loop row at bytes₀ digits₀ i₀ bytes digits i = (digits ≤ 2 * length bytes) × (length bytes ≡ length bytes₀)
+Inv-loop text bytes₀ digits₀ i₀ bytes digits i = (digits ≤ 2 * length bytes) × (length bytes ≡ length bytes₀)
 
 abbrev μ-loop : tie.MeasureT-loop
-μ-loop row at bytes₀ digits₀ i₀ bytes digits i = length row - i
+μ-loop text bytes₀ digits₀ i₀ bytes digits i = length text - i
 
 loop-holds : tie.Need-loop-holds Inv-loop μ-loop
 loop-holds c = search needs
-
-shared-slice-read-if1 : tie.Need-shared-slice-read-if1 Inv-loop μ-loop
-shared-slice-read-if1 c = search needs
-
-same-length : tie.Need-same-length Inv-loop μ-loop
-same-length c = search needs
-
-returns : tie.Need-returns Inv-loop μ-loop
-returns c = search needs
 
 shared-slice-read-digit : tie.Need-shared-slice-read-digit Inv-loop μ-loop
 shared-slice-read-digit c = search needs
@@ -43,11 +34,11 @@ loop-less c = search needs
 loop-again : tie.Need-loop-again Inv-loop μ-loop
 loop-again c = search needs
 
-same-length-2 : tie.Need-same-length-2 Inv-loop μ-loop
-same-length-2 c = search needs
+same-length : tie.Need-same-length Inv-loop μ-loop
+same-length c = search needs
 
-returns-2 : tie.Need-returns-2 Inv-loop μ-loop
-returns-2 c = search needs
+returns : tie.Need-returns Inv-loop μ-loop
+returns c = search needs
 
 pub hex-bytes-spec : {M : Type 1} → statement M
 hex-bytes-spec =
@@ -56,14 +47,11 @@ hex-bytes-spec =
     Inv-loop
     μ-loop
     loop-holds
-    shared-slice-read-if1
-    same-length
-    returns
     shared-slice-read-digit
     digit-requires
     put-digit-requires
     add-i
     loop-less
     loop-again
-    same-length-2
-    returns-2)
+    same-length
+    returns)

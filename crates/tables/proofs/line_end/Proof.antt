@@ -1,9 +1,9 @@
--- `checks::text::line_end` answers a place from `at` to the table's end. The measure is what is left of the table. Assumes nothing.
+-- `tables::line_end` answers a place from `at` to the table's end. The measure is what is left of the table. Assumes nothing.
 use borrow.Author.Needs.{needs}
 use Prim.Native.Nat.{_≤_, _-_}
 use lib.ListN.{length}
-use Rattle.checks.proofs.text.line_end.Statement.{statement}
-use Rattle.checks.proofs.text.line_end.Tie as tie
+use Rattle.tables.proofs.line_end.Statement.{statement}
+use Rattle.tables.proofs.line_end.Tie as tie
 
 abbrev Inv-loop : tie.InvT-loop
 Inv-loop table at i₀ i = (at ≤ i) × (i ≤ length table)
