@@ -3,3 +3,4 @@ pub mod Unfit
 pub mod One
 pub mod Demand3
 pub mod ShutOut
+pub mod Exact
