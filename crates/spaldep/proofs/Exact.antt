@@ -2,13 +2,17 @@
 -- to numbers that differ. Assumes nothing.
 use mathlib.Core.Path.{_≡_, _∙_, refl, sym, ap, subst}
 use mathlib.Core.Logic.{_⊎_, inl, inr}
-use mathlib.Core.Bool.{true, false, not, false≢true}
+use mathlib.Core.Bool.{Bool, true, false, not, _&&_, false≢true}
 use mathlib.Core.List.{List, [], _∷_, _++_}
-use Prim.Native.Nat.{ℕ, zero, suc, _%_, _^_, _≤_, _<_}
+use Prim.Native.Nat.{ℕ, zero, suc, _+_, _-_, _*_, _%_, _^_, _≤_, _<_}
+use native.Mathlib.Nat.{suc-mul, mul-le-mul}
 use native.Mathlib.Omega.{arith}
 use borrow.Author.Tests.{eq-eqb, ne-eqb, eqb-true, eqb-false, lt-ltb, le-ltb}
 use lib.Dec.{eqb, ltb}
 use lib.ListN.{length, length-append}
+use lib.Pow.{pow-mono}
+use Rattle.numbers.specs.Numbers.{oneIf, count, sum}
+use Rattle.numbers.proofs.Count.{count-none, count-more}
 use Rattle.numbers.proofs.Cases.{by-test, by-order, neither}
 use Rattle.records.specs.declared.Answer.{Answer}
 use Rattle.records.specs.Records.{recordBytes, recordCount}
@@ -16,15 +20,19 @@ use Rattle.records.specs.Blocks.{mostRecords, refused, misfit, firstBad, blockA
 use Rattle.records.proofs.Blocks.{answer-misfit}
 use Rattle.patterns.specs.declared.Checked.{Checked}
 use Rattle.patterns.specs.declared.Pattern.{Pattern}
-use Rattle.patterns.specs.Patterns.{headerBytes, headerBroken, variableCount, conditionCount}
-use Rattle.patterns.specs.Checked.{firstBadVariable, firstBadCondition, patternAnswer}
+use Rattle.patterns.specs.Patterns.{mostSets, headerBytes, headerBroken, variableCount, conditionCount}
+use Rattle.patterns.specs.Checked.{setOf, isGroup, patternOf, firstBadVariable, firstBadCondition, patternAnswer, InOrder}
 use Rattle.patterns.proofs.Answers.{wholeLength, answer-short, answer-header, answer-length, answer-variable, answer-condition, answer-pattern}
+use Rattle.patterns.proofs.InOrder.{accepted-pattern, accepted-in-order}
+use Rattle.automaton.specs.Counts.{setSize, groupSize, stepsGiven}
+use Rattle.automaton.specs.Listing.{ListingPromise, stepsListed}
+use Rattle.automaton.proofs.Counts.{all-steps}
 use Rattle.rule.specs.Rule.{Block, Line, TimesNeverFall, pack, packBindings}
 use Rattle.rule.specs.Promises.{Outcome, LiveCount, Forward, StartByStart, success}
 use Rattle.rule.specs.Calls.{inputAnswer, patternIn, blockIn, roomIn, StartByStartCall, ForwardCall}
 use Rattle.rule.proofs.Over.{long-in}
 use Rattle.rule.proofs.Sense.{never-twice}
-use Rattle.rule.proofs.Inputs.{input-pattern, input-block, input-refused, input-in-order, times-never-fall}
+use Rattle.rule.proofs.Inputs.{pattern-refusals, input-pattern, input-block, input-refused, input-in-order, times-never-fall}
 use Rattle.rule.proofs.Results.{checked-input}
 use Rattle.spaldep.specs.Packed.{placeOrUsed, packedAnswer, codeIn, placeOrUsedIn, readingsIn, peakIn}
 use Rattle.spaldep.specs.Host.{mostResultBytes}
@@ -191,3 +199,37 @@ packed-apart a b f g e =
     let x = fits-exact a f in
     let y = fits-exact b g in
     (sym (x .code) ∙ ap codeIn e ∙ y .code, sym (x .place) ∙ ap placeOrUsedIn e ∙ y .place, sym (x .readings) ∙ ap readingsIn e ∙ y .readings, sym (x .peak) ∙ ap peakIn e ∙ y .peak)
+
+-- ## The listing
+
+sum-le : (f : ℕ → ℕ) (most n : ℕ) → ((i : ℕ) → f i ≤ most) → sum f n ≤ n * most
+unfolding sum
+sum-le f most zero h = omega arith
+sum-le f most (suc n) h = omega (arith, sum-le f most n h, h n, suc-mul n most)
+
+flag-le : (t : Bool) → oneIf t ≤ 1
+flag-le true = omega arith
+flag-le false = omega arith
+
+count-le : (test : ℕ → Bool) (n : ℕ) → count test n ≤ n
+count-le test zero = omega (arith, count-none test)
+count-le test (suc n) = let e : suc n ≡ n + 1 = omega arith in omega (arith, ap (count test) e, count-more test n, count-le test n, flag-le (test n))
+
+-- a set has at most twelve variables here; a checked one has at most six
+steps-le : (p : Pattern) → InOrder p → (set : ℕ) → stepsGiven p set ≤ 24 * 2 ^ 11
+steps-le p ok set =
+    let size = count-le (λ v. eqb (setOf p v) set) (p .n) in
+    let groups = count-le (λ v. eqb (setOf p v) set && isGroup p v) (p .n) in
+    let many : setSize p set + groupSize p set ≤ 24 = omega (arith, size, groups, ok .few) in
+    let high : setSize p set - 1 ≤ 11 = omega (arith, size, ok .few) in
+    mul-le-mul many (pow-mono high)
+
+pub listing-fits : (pattern : List ℕ) (lent : ℕ) (a : Answer) (after : List ℕ) → ListingPromise pattern lent a after → Fits a
+listing-fits pattern lent a after (ListingPromise.badPattern n e r) =
+    subst Fits (sym e) (refused-fits (patternAnswer pattern .code) (patternAnswer pattern .place) (omega arith) (omega (arith, pattern-refusals pattern)) (pattern-place pattern))
+listing-fits pattern lent a after (ListingPromise.noRoom z l is m e r) = subst Fits (sym e) (refused-fits 12 0 (omega arith) (omega arith) (omega arith))
+listing-fits pattern lent a after (ListingPromise.listed z l is m e r) =
+    let checked = subst InOrder (accepted-pattern pattern z) (accepted-in-order pattern z) in
+    let bound = sum-le (λ i. stepsGiven (patternOf pattern) (suc i)) (24 * 2 ^ 11) mostSets (λ i. steps-le (patternOf pattern) checked (suc i)) in
+    let small : length l < 2 ^ 24 = omega (arith, all-steps (patternOf pattern) checked l is, bound) in
+    subst Fits (sym e) (record { code = omega arith; place = used-fits (stepsListed (length l)) refl small; readings = omega arith; peak = omega arith })
