@@ -105,8 +105,8 @@ module _ (bytes : List ℕ) (v : ℕ) (k : Condition) (b : Binding) where
 -- ## What the code has read is what stands in the plan, the slot and the block
 
 module _ (v : ℕ) (read k : Condition) (e : read ≡ k) where
-  pub value-read : (x : ℕ) (r s : Record) → r ≡ s → x ≡ raise (value (sideOf v read) r) → x ≡ raise (value (sideOf v k) s)
-  value-read x r s f g = g ∙ ap₂ (λ (q : Condition) (y : Record). raise (value (sideOf v q) y)) e f
+  pub value-read : (x : ℕ) (r : Record) → x ≡ raise (value (sideOf v read) r) → x ≡ raise (value (sideOf v k) r)
+  value-read x r f = f ∙ ap (λ (q : Condition). raise (value (sideOf v q) r)) e
 
   pub end-read : (state count end s n : ℕ) → state ≡ s → count ≡ n → end ≡ testedBy state count v read → end ≡ testedBy s n v k
   end-read state count end s n f g h = h ∙ ap (testedBy state count v) e ∙ ap₂ (λ (a b : ℕ). testedBy a b v k) f g
@@ -153,7 +153,7 @@ weight-le a v e =
     omega (arith, weight-in-le a v, weight-in a v)
 
 -- bit v away
-less-bit : (a n v u : ℕ) → a < 2 ^ n → bit a v ≡ true → bit (a - 2 ^ v) u ≡ not (eqb v u) && bit a u
+pub less-bit : (a n v u : ℕ) → a < 2 ^ n → bit a v ≡ true → bit (a - 2 ^ v) u ≡ not (eqb v u) && bit a u
 less-bit a n v u h e =
     let w : 2 ^ v ≡ oneIf (bit a v) * 2 ^ v = sym (one-mul (2 ^ v)) ∙ ap (λ (t : Bool). oneIf t * 2 ^ v) (sym e) in
     ap (λ (x : ℕ). bit (a - x) u) w ∙ bit-without a n v u h

@@ -7,3 +7,4 @@ pub mod Own
 pub mod Slots
 pub mod Joins
 pub mod Seated
+pub mod Classes

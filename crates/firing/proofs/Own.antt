@@ -1,26 +1,21 @@
--- The mask of the variables whose own conditions hold, settled condition by condition. Assumes nothing.
+-- A mask of variables, settled condition by condition: by conditions that look at one event alone, and by those on class.
+-- Assumes nothing.
 use mathlib.Core.Path.{_≡_, _∙_, refl, sym, ap, ap₂}
 use mathlib.Core.Bool.{Bool, true, false, not, _&&_, _||_}
-use mathlib.Core.List.{List}
-use Prim.Native.Nat.{ℕ, _+_, _-_, _*_, _^_, _≤_, _<_}
-use native.Mathlib.Omega.{arith}
+use Prim.Native.Nat.{ℕ, _+_, _-_, _*_, _^_}
 use borrow.Author.Tests.{ne-eqb, eqb-true, eqb-false}
 use lib.Dec.{eqb}
-use lib.ListN.{getD}
 use Rattle.numbers.specs.Numbers.{every, oneIf}
 use Rattle.numbers.specs.Bits.{bit, mask}
 use Rattle.numbers.proofs.Cases.{by-test, neither}
-use Rattle.numbers.proofs.Every.{every-none, every-more, every-of, every-true}
-use Rattle.numbers.proofs.Bits.{bit-zero, mask-inside, mask-same, mask-all, mask-nothing, mask-without}
+use Rattle.numbers.proofs.Every.{every-none, every-more}
+use Rattle.numbers.proofs.Bits.{mask-same, mask-all, mask-without}
 use Rattle.records.specs.declared.Record.{Record}
-use Rattle.records.specs.Records.{recordAt}
 use Rattle.patterns.specs.declared.Condition.{Condition}
-use Rattle.patterns.specs.Patterns.{conditionOf}
 use Rattle.patterns.specs.Comparison.{holds}
 use Rattle.automaton.specs.Lists.{implies}
-use Rattle.automaton.proofs.Lists.{clash}
-use Rattle.firing.specs.Plan.{isOwn, conditionIn}
-use Rattle.firing.specs.Firing.{ownHolds, canBy, settled}
+use Rattle.firing.specs.Plan.{isOwn, isOnClass, sampleOf, classHolds, classMask}
+use Rattle.firing.specs.Firing.{settled, settledOnClass}
 
 module _ (can : ℕ) (k : Condition) (r : Record) where
   pub settled-join : eqb (k .form) 0 || eqb (k .variable) (k .variable2) ≡ false → settled can k r ≡ can
@@ -69,7 +64,7 @@ module _ (k : Condition) where
       rw f (ap (λ (u : ℕ). eqb (k .variable) v && eqb u v) (sym same) ∙ and-self (eqb (k .variable) v)))
 
   -- any other is no variable's own
-  own-none : eqb (k .form) 0 || eqb (k .variable) (k .variable2) ≡ false → (v : ℕ) → isOwn v k ≡ false
+  pub own-none : eqb (k .form) 0 || eqb (k .variable) (k .variable2) ≡ false → (v : ℕ) → isOwn v k ≡ false
   unfolding isOwn
   own-none e v =
       let n = neither (eqb (k .form) 0) (eqb (k .variable) (k .variable2)) e in
@@ -96,29 +91,36 @@ module _ (k : Condition) where
         settled-join (mask f n) k r e
         ∙ mask-same f more n (λ v l. sym (ap (λ (t : Bool). f v && implies t (holds k r r)) (own-none e v) ∙ and-true (f v))))
 
-module _ (plan bytes : List ℕ) (i n : ℕ) where
-  -- the variables whose own conditions among the first q hold
-  abbrev pub settledTo : ℕ → ℕ
-  settledTo q = mask (λ v. every (ownHolds plan bytes i v) q) n
+-- ## The conditions on class
 
-  pub settled-none : 2 ^ n - 1 ≡ settledTo 0
-  settled-none = sym (mask-all (λ v. every (ownHolds plan bytes i v) 0) n (λ v. every-none (ownHolds plan bytes i v)))
+module _ (can : ℕ) (k : Condition) (r : Record) where
+  pub on-class-settled : isOnClass k ≡ true → settledOnClass can k r ≡ settled can k r
+  unfolding settledOnClass
+  on-class-settled e = rw (e, settledOnClass)
 
-  pub settled-more : (can q s word : ℕ) (r : Record) → can ≡ settledTo q → word ≡ getD plan q 0 → r ≡ recordAt bytes i → s ≡ settled can (conditionOf word) r → s ≡ settledTo (q + 1)
-  unfolding ownHolds
-  settled-more can q s word r c w e f =
+  pub off-class-settled : isOnClass k ≡ false → settledOnClass can k r ≡ can
+  unfolding settledOnClass
+  off-class-settled e = rw (e, settledOnClass)
+
+on-class-mask : (f : ℕ → Bool) (n : ℕ) (k : Condition) (r : Record) → settledOnClass (mask f n) k r ≡ mask (λ v. f v && implies (isOnClass k) (implies (isOwn v k) (holds k r r))) n
+on-class-mask f n k r =
+    let asked : Bool → ℕ → Bool = λ t v. f v && implies t (implies (isOwn v k) (holds k r r)) in
+    by-test (isOnClass k)
+    (λ e. on-class-settled (mask f n) k r e ∙ settled-mask k f n r ∙ ap (λ (t : Bool). mask (asked t) n) (sym e))
+    (λ e.
+    off-class-settled (mask f n) k r e
+    ∙ mask-same f (asked false) n (λ v l. sym (and-true (f v)))
+    ∙ ap (λ (t : Bool). mask (asked t) n) (sym e))
+
+module _ (condition : ℕ → Condition) (n b : ℕ) where
+  pub class-none : 2 ^ n - 1 ≡ classMask condition n 0 b
+  unfolding classMask
+  class-none = sym (mask-all (λ v. every (λ i. classHolds b v (condition i)) 0) n (λ v. every-none (λ i. classHolds b v (condition i))))
+
+  pub class-more : (can q s : ℕ) (r : Record) → can ≡ classMask condition n q b → r ≡ sampleOf b → s ≡ settledOnClass can (condition q) r → s ≡ classMask condition n (q + 1) b
+  unfolding classMask classHolds
+  class-more can q s r c e f =
       f
-      ∙ ap₂ (λ (x : ℕ) (y : Record). settled x (conditionOf word) y) c e
-      ∙ ap (λ (x : ℕ). settled (settledTo q) (conditionOf x) (recordAt bytes i)) w
-      ∙ settled-mask (conditionIn plan q) (λ v. every (ownHolds plan bytes i v) q) n (recordAt bytes i)
-      ∙ mask-same (λ v. every (ownHolds plan bytes i v) q && ownHolds plan bytes i v q) (λ v. every (ownHolds plan bytes i v) (q + 1)) n (λ v l. sym (every-more (ownHolds plan bytes i v) q))
-
-  -- where no variable is left, none will be
-  pub settled-nothing : (c q : ℕ) → q ≤ c → settledTo q ≡ 0 → canBy plan n c bytes i ≡ 0
-  unfolding canBy
-  settled-nothing c q h e =
-      mask-nothing (λ v. every (ownHolds plan bytes i v) c) n (λ v l.
-      let none : every (ownHolds plan bytes i v) q ≡ false = sym (mask-inside (λ u. every (ownHolds plan bytes i u) q) n v l) ∙ ap (λ (x : ℕ). bit x v) e ∙ bit-zero v in
-      by-test (every (ownHolds plan bytes i v) c)
-      (λ t. clash (every-of (ownHolds plan bytes i v) q (λ j m. every-true (ownHolds plan bytes i v) c t j (omega arith))) none)
-      (λ t. t))
+      ∙ ap₂ (λ (x : ℕ) (y : Record). settledOnClass x (condition q) y) c e
+      ∙ on-class-mask (λ v. every (λ i. classHolds b v (condition i)) q) n (condition q) (sampleOf b)
+      ∙ mask-same (λ v. every (λ i. classHolds b v (condition i)) q && classHolds b v (condition q)) (λ v. every (λ i. classHolds b v (condition i)) (q + 1)) n (λ v l. sym (every-more (λ i. classHolds b v (condition i)) q))

@@ -9,16 +9,17 @@ use borrow.Author.Tests.{lt-ltb, le-ltb, ltb-true, eqb-false, not-true}
 use lib.Dec.{eqb, ltb}
 use lib.ListN.{length, getD, set}
 use lib.Pow.{pow-mono}
-use Rattle.numbers.specs.Numbers.{field}
+use Rattle.numbers.specs.Numbers.{field, every}
 use Rattle.numbers.specs.Bits.{bit, mask}
 use Rattle.numbers.proofs.Cases.{by-order, both}
-use Rattle.numbers.proofs.Bits.{mask-bound, mask-bit}
+use Rattle.numbers.proofs.Every.{every-same}
+use Rattle.numbers.proofs.Bits.{mask-bound, mask-bit, mask-same}
 use Rattle.patterns.specs.declared.Condition.{Condition}
 use Rattle.patterns.specs.declared.Pattern.{Pattern}
 use Rattle.patterns.specs.Patterns.{mostVariables, mostConditions, lastAttribute, lastOperator, conditionOf}
 use Rattle.patterns.specs.Checked.{conditionAt, InOrder}
 use Rattle.patterns.proofs.Filled.{filled-at, filled-more, filled-length}
-use Rattle.firing.specs.Plan.{planRoom, firstMask, firstJoins, maskPlace, wordOf, joins, isJoin, variableMask, joinMask, placeOf, planUpTo, planOf, conditionIn, beforeIn, afterIn, marksIn, joinsIn, Placed, IsPlan, Sound}
+use Rattle.firing.specs.Plan.{planRoom, firstMask, firstJoins, firstClass, othersPlace, typePlaces, maskPlace, wordOf, joins, isJoin, isOther, variableMask, joinMask, classHolds, classMask, otherMask, placeOf, planUpTo, planOf, conditionIn, beforeIn, afterIn, marksIn, joinsIn, classIn, othersIn, Placed, IsPlan, Sound, Classed}
 
 -- ## Conditions
 
@@ -85,9 +86,19 @@ module _ (p : Pattern) where
   unfolding placeOf
   place-mask place h l = rw (le-ltb place firstMask h, lt-ltb place firstJoins l, placeOf)
 
-  pub place-joins : (place : ℕ) → firstJoins ≤ place → placeOf p place ≡ joinMask p (place - firstJoins)
+  pub place-joins : (place : ℕ) → firstJoins ≤ place → place < firstClass → placeOf p place ≡ joinMask p (place - firstJoins)
   unfolding placeOf
-  place-joins place h = rw (le-ltb place firstMask (omega arith), le-ltb place firstJoins h, placeOf)
+  place-joins place h l = rw (le-ltb place firstMask (omega arith), le-ltb place firstJoins h, lt-ltb place firstClass l, placeOf)
+
+  pub place-class : (place : ℕ) → firstClass ≤ place → place < othersPlace → placeOf p place ≡ classMask (conditionAt p) (p .n) (p .c) (place - firstClass)
+  unfolding placeOf
+  place-class place h l =
+      rw (le-ltb place firstMask (omega arith), le-ltb place firstJoins (omega arith), le-ltb place firstClass h, lt-ltb place othersPlace l, placeOf)
+
+  pub place-others : (place : ℕ) → othersPlace ≤ place → placeOf p place ≡ otherMask (conditionAt p) (p .c)
+  unfolding placeOf
+  place-others place h =
+      rw (le-ltb place firstMask (omega arith), le-ltb place firstJoins (omega arith), le-ltb place firstClass (omega arith), le-ltb place othersPlace h, placeOf)
 
   pub plan-place : (place : ℕ) → place < planRoom → getD (planOf p) place 0 ≡ placeOf p place
   unfolding planOf planUpTo
@@ -117,7 +128,15 @@ module _ (p : Pattern) where
   joins-at : (v : ℕ) → v < mostVariables → getD (planOf p) (firstJoins + v) 0 ≡ joinMask p v
   joins-at v l =
       let a : (firstJoins + v) - firstJoins ≡ v = omega arith in
-      plan-place (firstJoins + v) (omega arith) ∙ place-joins (firstJoins + v) (omega arith) ∙ ap (joinMask p) a
+      plan-place (firstJoins + v) (omega arith) ∙ place-joins (firstJoins + v) (omega arith) (omega arith) ∙ ap (joinMask p) a
+
+  class-at : (b : ℕ) → b < typePlaces → getD (planOf p) (firstClass + b) 0 ≡ classMask (conditionAt p) (p .n) (p .c) b
+  class-at b l =
+      let a : (firstClass + b) - firstClass ≡ b = omega arith in
+      plan-place (firstClass + b) (omega arith) ∙ place-class (firstClass + b) (omega arith) (omega arith) ∙ ap (classMask (conditionAt p) (p .n) (p .c)) a
+
+  others-at : getD (planOf p) othersPlace 0 ≡ otherMask (conditionAt p) (p .c)
+  others-at = plan-place othersPlace (omega arith) ∙ place-others othersPlace (omega arith)
 
 -- the first places give the conditions back
 pub record Backs (p : Pattern) (count : ℕ) : Type 0 where
@@ -190,4 +209,19 @@ module _ (p : Pattern) (o : InOrder p) (plan : List ℕ) (is : IsPlan p plan) wh
             by-order i (p .c)
             (λ l. rw (is .condition i l) (o .operator i l))
             (λ l. omega (arith, none-behind i h l));
+      }
+
+  -- the plan's masks by class and of the others are those of its own conditions
+  pub classed-plan : Classed plan (p .n) (p .c)
+  unfolding classMask otherMask
+  classed-plan =
+      record {
+        byClass = λ b l.
+            ap (λ (q : List ℕ). classIn q b) (is .made) ∙ class-at p b l
+            ∙ mask-same (λ v. every (λ i. classHolds b v (conditionAt p i)) (p .c)) (λ v. every (λ i. classHolds b v (conditionIn plan i)) (p .c)) (p .n) (λ v m.
+            every-same (λ i. classHolds b v (conditionAt p i)) (λ i. classHolds b v (conditionIn plan i)) (p .c) (λ i h.
+            ap (classHolds b v) (sym (is .condition i h))));
+        others =
+            ap othersIn (is .made) ∙ others-at p
+            ∙ mask-same (λ i. isOther (conditionAt p i)) (λ i. isOther (conditionIn plan i)) (p .c) (λ i h. ap isOther (sym (is .condition i h)));
       }

@@ -65,25 +65,3 @@ module _ (plan bytes slot : List ℕ) (i v : ℕ) where
   pub later-latest : disjoint (stateIn slot) (marksIn plan v) ≡ true → 1 ≤ countIn slot → laterBy plan bytes i v (heldIn slot) ≡ ltb (recordAt bytes (bindingAt slot (countIn slot - 1) .at) .time) (recordAt bytes i .time)
   unfolding laterBy heldIn
   later-latest e h = rw e (latest-of bytes slot i (countIn slot) h)
-
--- ## The step
-
-module _ (plan bytes : List ℕ) (i can v : ℕ) (h : Held) where
-  -- the parts in their order, each the first that fails
-  pub fires-own : bit can v ≡ false → firesBy plan bytes i can v h ≡ false
-  unfolding firesBy
-  fires-own e = rw e
-
-  module _ (own : bit can v ≡ true) where
-    pub fires-leaves : leavesBy plan (h .state) v ≡ false → firesBy plan bytes i can v h ≡ false
-    unfolding firesBy
-    fires-leaves e = rw (own, e)
-
-    module _ (leaves : leavesBy plan (h .state) v ≡ true) where
-      pub fires-later : laterBy plan bytes i v h ≡ false → firesBy plan bytes i can v h ≡ false
-      unfolding firesBy
-      fires-later e = rw (own, leaves, e)
-
-      pub fires-joins : laterBy plan bytes i v h ≡ true → firesBy plan bytes i can v h ≡ joinsBy plan bytes i v (h .bindings)
-      unfolding firesBy
-      fires-joins e = rw (own, leaves, e)

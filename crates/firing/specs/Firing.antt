@@ -20,7 +20,7 @@ use Rattle.automaton.specs.Lists.{implies, all}
 use Rattle.rule.specs.Rule.{Binding, Reading, lastOf}
 use Rattle.rule.specs.Promises.{mostBindings}
 use Rattle.slots.specs.Slots.{Held, slotBytes, countIn, stateIn, bindingsIn}
-use Rattle.firing.specs.Plan.{isOwn, conditionIn, beforeIn, afterIn, marksIn, joinsIn, Sound}
+use Rattle.firing.specs.Plan.{isOwn, isOnClass, conditionIn, beforeIn, afterIn, marksIn, joinsIn, Sound}
 
 -- ## Once a record
 
@@ -40,6 +40,10 @@ settled can k r =
       | false ↦ can
       | true ↦ elim (holds k r r) [ true ↦ can | false ↦ can - oneIf (bit can (k .variable)) * 2 ^ k .variable ]
     ]
+
+-- the same where k is on class, and all of the mask where it is not
+unfoldable pub settledOnClass : ℕ → Condition → Record → ℕ
+settledOnClass can k r = elim (isOnClass k) [ true ↦ settled can k r | false ↦ can ]
 
 -- ## Once a reading
 

@@ -1,19 +1,24 @@
--- What a pass prepares once a call: a plan, 80 numbers of 64 bits made of the checked pattern. The first 32 are the
--- conditions as document 01 packs them; behind them stand four masks for each variable.
+-- What a pass prepares once a call: a plan, 97 numbers of 64 bits made of the checked pattern. The first 32 are the
+-- conditions as document 01 packs them; behind them stand four masks for each variable, then for each 16 event types the
+-- variables whose conditions on class hold of them, and last the conditions that each event has yet to be asked.
 use mathlib.Core.Path.{_≡_}
 use mathlib.Core.Bool.{Bool, true, false, not, _&&_, _||_}
 use mathlib.Core.List.{List}
 use Prim.Native.Nat.{ℕ, _+_, _-_, _*_, _/_, _%_, _^_, _<_, _≤_}
 use lib.Dec.{eqb, ltb, leb}
 use lib.ListN.{length, getD}
+use Rattle.numbers.specs.Numbers.{every}
 use Rattle.numbers.specs.Bits.{mask, bit}
+use Rattle.records.specs.declared.Record.{Record}
 use Rattle.patterns.specs.declared.Condition.{Condition}
 use Rattle.patterns.specs.declared.Pattern.{Pattern}
 use Rattle.patterns.specs.Patterns.{mostVariables, mostConditions, lastOperator, conditionOf}
 use Rattle.patterns.specs.Checked.{filled, conditionAt, setOf, isGroup}
+use Rattle.patterns.specs.Comparison.{holds}
+use Rattle.automaton.specs.Lists.{implies}
 
 abbrev pub planRoom : ℕ
-planRoom = 80
+planRoom = 97
 
 -- ## The conditions
 
@@ -70,6 +75,59 @@ variableMask p which v = mask (stands p which v) (p .n)
 unfoldable pub joinMask : Pattern → ℕ → ℕ
 joinMask p v = mask (λ i. isJoin v (conditionAt p i)) (p .c)
 
+-- ## Conditions on class
+
+-- attribute 2 is the class
+abbrev pub classAttribute : ℕ
+classAttribute = 2
+
+-- of form 0 and on class: the condition compares the class of its variable's event with the constant
+unfoldable pub onClass : ℕ → ℕ → Bool
+onClass form attribute = eqb form 0 && eqb attribute classAttribute
+
+abbrev pub isOnClass : Condition → Bool
+isOnClass k = onClass (k .form) (k .attribute)
+
+-- any other condition that looks at one event alone: of form 0 on another attribute, or with one variable on both sides
+unfoldable pub otherOwn : ℕ → ℕ → ℕ → ℕ → Bool
+otherOwn form variable variable2 attribute =
+    elim (eqb form 0) [ true ↦ not (eqb attribute classAttribute) | false ↦ eqb variable variable2 ]
+
+abbrev pub isOther : Condition → Bool
+isOther k = otherOwn (k .form) (k .variable) (k .variable2) (k .attribute)
+
+-- a place of the plan serves 16 event types: those from 16 * b on, all of one class
+abbrev pub typesTogether : ℕ
+typesTogether = 16
+
+abbrev pub typePlaces : ℕ
+typePlaces = 16
+
+-- an event of the first of them
+unfoldable pub sampleOf : ℕ → Record
+sampleOf b =
+    record {
+      kind = 0;
+      core = 0;
+      «event_type» = typesTogether * b;
+      time = 0;
+      slot = 0;
+      amount = 0;
+      last = 0;
+    }
+
+-- condition k holds of the sample for v, if it is on class and looks at the event for v
+unfoldable pub classHolds : ℕ → ℕ → Condition → Bool
+classHolds b v k = implies (isOnClass k) (implies (isOwn v k) (holds k (sampleOf b) (sampleOf b)))
+
+-- the variables whose conditions on class hold of the sample, of n variables and c conditions
+unfoldable pub classMask : (ℕ → Condition) → ℕ → ℕ → ℕ → ℕ
+classMask condition n c b = mask (λ v. every (λ i. classHolds b v (condition i)) c) n
+
+-- the other conditions that look at one event alone, of c conditions, bit i for condition i
+unfoldable pub otherMask : (ℕ → Condition) → ℕ → ℕ
+otherMask condition c = mask (λ i. isOther (condition i)) c
+
 -- ## The plan
 
 abbrev pub firstMask : ℕ
@@ -82,13 +140,25 @@ maskPlace which v = firstMask + mostVariables * which + v
 abbrev pub firstJoins : ℕ
 firstJoins = 68
 
+abbrev pub firstClass : ℕ
+firstClass = 80
+
+abbrev pub othersPlace : ℕ
+othersPlace = 96
+
 unfoldable pub placeOf : Pattern → ℕ → ℕ
 placeOf p place =
     elim (ltb place firstMask) [
       | true ↦ elim (ltb place (p .c)) [ true ↦ wordOf (conditionAt p place) | false ↦ 0 ]
       | false ↦ elim (ltb place firstJoins) [
         | true ↦ variableMask p ((place - firstMask) / mostVariables) ((place - firstMask) % mostVariables)
-        | false ↦ joinMask p (place - firstJoins)
+        | false ↦ elim (ltb place firstClass) [
+          | true ↦ joinMask p (place - firstJoins)
+          | false ↦ elim (ltb place othersPlace) [
+            | true ↦ classMask (conditionAt p) (p .n) (p .c) (place - firstClass)
+            | false ↦ otherMask (conditionAt p) (p .c)
+          ]
+        ]
       ]
     ]
 
@@ -121,6 +191,12 @@ marksIn plan v = getD plan (maskPlace 2 v) 0
 abbrev pub joinsIn : List ℕ → ℕ → ℕ
 joinsIn plan v = getD plan (firstJoins + v) 0
 
+abbrev pub classIn : List ℕ → ℕ → ℕ
+classIn plan b = getD plan (firstClass + b) 0
+
+abbrev pub othersIn : List ℕ → ℕ
+othersIn plan = getD plan othersPlace 0
+
 -- the plan of p: its first places give the conditions back
 pub record IsPlan (p : Pattern) (plan : List ℕ) : Type 0 where
   pub made : plan ≡ planOf p
@@ -133,3 +209,8 @@ pub record Sound (plan : List ℕ) : Type 0 where
   pub joins : (v : ℕ) → v < mostVariables → joinsIn plan v < 2 ^ mostConditions
   pub form : (v i : ℕ) → v < mostVariables → bit (joinsIn plan v) i ≡ true → conditionIn plan i .form ≡ 0 → ⊥
   pub operator : (i : ℕ) → i < mostConditions → conditionIn plan i .operator ≤ lastOperator
+
+-- a plan that has settled the conditions on class of n variables and c conditions, and names the others
+pub record Classed (plan : List ℕ) (n c : ℕ) : Type 0 where
+  pub byClass : (b : ℕ) → b < typePlaces → classIn plan b ≡ classMask (conditionIn plan) n c b
+  pub others : othersIn plan ≡ otherMask (conditionIn plan) c

@@ -1,5 +1,5 @@
-// Whether a step fires, in the parts that a pass settles one by one: a plan once a call, the new event's own conditions
-// once a record, the rest once a reading.
+// Whether a step fires, in the parts that a pass settles one by one: a plan with the conditions on class once a call, the
+// new event's other own conditions once a record, the rest once a reading.
 ghost use mathlib.Core.Path.{_≡_};
 ghost use mathlib.Core.Bool.{Bool, true, false, _||_};
 ghost use Prim.Native.Nat.{ℕ, _+_, _-_, _*_, _/_, _%_, _^_, _<_, _≤_};
@@ -12,19 +12,27 @@ ghost use Rattle.patterns.specs.Patterns.{mostVariables, mostConditions, lastOp
 ghost use Rattle.patterns.specs.Checked.{InOrder, conditionAt};
 ghost use Rattle.patterns.specs.Comparison.{value, raise, holds};
 ghost use Rattle.slots.specs.Slots.{bindingOf, bindingsIn, countIn, heldIn};
-ghost use Rattle.firing.specs.Plan.{planRoom, joins, standing, variableMask, joinMask, IsWord, Placed, IsPlan, Sound};
-ghost use Rattle.firing.specs.Firing.{settled, canBy, leavesBy, laterBy, sideOf, testedBy, pairMeets, joinsBy, agreesBy, firesBy, Fit};
+ghost use Rattle.firing.specs.Plan.{planRoom, joins, standing, variableMask, joinMask, onClass, otherOwn, sampleOf, typePlaces, classMask, otherMask, IsWord, Placed, IsPlan, Sound, Classed};
+ghost use Rattle.firing.specs.Firing.{settled, settledOnClass, canBy, leavesBy, laterBy, sideOf, testedBy, pairMeets, joinsBy, agreesBy, Fit};
 use patterns::Condition;
 use patterns::Pattern;
 use records::Record;
 
 // ## The plan
 
-const PLAN_ROOM: usize = 80;
+const PLAN_ROOM: usize = 97;
 
 const MOST_VARIABLES: usize = 12;
 
-// Where the masks stand: before, after and marks for each variable, then joins.
+const RECORD_BYTES: usize = 16;
+
+// The attribute class.
+const CLASS: u8 = 2;
+
+// How many event types one after the other share a place of the plan: all of them are of one class.
+const TYPES_TOGETHER: usize = 16;
+
+// Where the masks stand: before, after and marks for each variable, then joins; then those by class, and the others.
 const FIRST_MASK: usize = 32;
 
 const FIRST_AFTER: usize = 44;
@@ -32,6 +40,10 @@ const FIRST_AFTER: usize = 44;
 const FIRST_MARKS: usize = 56;
 
 const FIRST_JOINS: usize = 68;
+
+const FIRST_CLASS: usize = 80;
+
+const OTHERS: usize = 96;
 
 // A condition as its 64 bits.
 fn word_of(
@@ -67,17 +79,6 @@ fn word_at(p: Pattern, i: usize) -> u64
     )
 }
 
-// The weight of v, if the test passes.
-fn weight_if(test: bool, v: usize) -> u64
-    requires { ⌜ v < 64 ⌝ }
-    ensures { λ r. ⌜ r ≡ oneIf test * 2 ^ v ⌝ }
-{
-    if test {
-        return numbers::weight(v);
-    }
-    0
-}
-
 // Whether a variable stands in one of the masks of another: 0 before, 1 after, 2 marks.
 fn is_standing(which: usize, own: u8, set: u8, same: bool, group: bool) -> bool
     ensures { λ r. ⌜ r ≡ standing which own set same group ⌝ }
@@ -111,7 +112,7 @@ fn variable_mask(p: Pattern, which: usize, v: usize) -> u64
     let mut bits: u64 = 0;
     let mut u = 0;
     while u < n {
-        bits = bits + weight_if(is_standing(which, own, p.sets[u], u == v, group), u);
+        bits = bits + numbers::weight_if(is_standing(which, own, p.sets[u], u == v, group), u);
         u += 1;
     }
     bits
@@ -141,45 +142,14 @@ fn join_mask(p: Pattern, v: usize) -> u64
     let mut bits: u64 = 0;
     let mut i = 0;
     while i < c {
-        bits = bits + weight_if(is_join(v, p.forms[i], p.variables[i], p.variables2[i]), i);
+        bits = bits
+            + numbers::weight_if(is_join(v, p.forms[i], p.variables[i], p.variables2[i]), i);
         i += 1;
     }
     bits
 }
 
-// What stands at a place of the plan.
-fn place(p: Pattern, at: usize) -> u64
-    requires { ⌜ InOrder p × (at < planRoom) ⌝ }
-    ensures { λ r. ⌜ Placed p at r ⌝ }
-{
-    if at < FIRST_MASK {
-        if at < p.c {
-            return word_at(p, at);
-        }
-        return 0;
-    }
-    if at < FIRST_JOINS {
-        let beyond = at - FIRST_MASK;
-        return variable_mask(p, beyond / MOST_VARIABLES, beyond % MOST_VARIABLES);
-    }
-    join_mask(p, at - FIRST_JOINS)
-}
-
-// What a pass prepares once a call.
-pub fn plan_of(p: Pattern) -> [u64; 80]
-    requires { ⌜ InOrder p ⌝ }
-    ensures { λ r. ⌜ IsPlan p r ⌝ }
-{
-    let mut plan = [0u64; 80];
-    let mut at = 0;
-    while at < PLAN_ROOM {
-        plan[at] = place(p, at);
-        at += 1;
-    }
-    plan
-}
-
-// ## Once a record
+// ## Conditions that look at one event alone
 
 // Whether a condition looks at one event alone.
 fn is_own(k: Condition) -> bool
@@ -206,20 +176,143 @@ fn settle(can: u64, word: u64, r: Record) -> u64
     numbers::without_bit(can, k.variable as usize)
 }
 
-// The variables whose own conditions hold of record i, by the plan of a pattern of n variables and c conditions.
-pub fn can_fire(plan: &[u64; 80], n: usize, c: usize, block: &[u8], i: usize) -> u64
-    requires { ⌜ Sound (now plan) × (n ≤ mostVariables) × (c ≤ mostConditions) × (recordBytes * i + recordBytes ≤ length (now block)) ⌝ }
+// Whether a condition compares the class of its variable's event with the constant.
+fn is_on_class(form: u8, attribute: u8) -> bool
+    ensures { λ r. ⌜ r ≡ onClass form attribute ⌝ }
+{
+    if form != 0 {
+        return false;
+    }
+    attribute == CLASS
+}
+
+// The mask without the variable of condition i, if it is on class and fails of the record.
+fn settle_on_class(can: u64, p: Pattern, i: usize, r: Record) -> u64
+    requires { ⌜ InOrder p × (i < p .c) ⌝ }
+    ensures { λ s. ⌜ s ≡ settledOnClass can (conditionAt p i) r ⌝ }
+{
+    if !is_on_class(p.forms[i], p.attributes[i]) {
+        return can;
+    }
+    settle(can, word_at(p, i), r)
+}
+
+// An event of the first of the types that share place b.
+fn sample(b: usize) -> Record
+    requires { ⌜ b < typePlaces ⌝ }
+    ensures { λ r. ⌜ r ≡ sampleOf b ⌝ }
+{
+    Record {
+        kind: 0,
+        core: 0,
+        event_type: (TYPES_TOGETHER * b) as u8,
+        time: 0,
+        slot: 0,
+        amount: 0,
+        last: 0,
+    }
+}
+
+// The variables whose conditions on class hold of the events whose types share place b.
+fn class_mask(p: Pattern, b: usize) -> u64
+    requires { ⌜ InOrder p × (b < typePlaces) ⌝ }
+    ensures { λ r. ⌜ r ≡ classMask (conditionAt p) (p .n) (p .c) b ⌝ }
+{
+    let r = sample(b);
+    let c = p.c;
+    let mut can = numbers::weight(p.n) - 1;
+    let mut i = 0;
+    while i < c {
+        can = settle_on_class(can, p, i, r);
+        i += 1;
+    }
+    can
+}
+
+// Whether a condition looks at one event alone and is not settled by the event's class.
+fn is_other(form: u8, variable: u8, variable2: u8, attribute: u8) -> bool
+    ensures { λ r. ⌜ r ≡ otherOwn form variable variable2 attribute ⌝ }
+{
+    if form != 0 {
+        return variable == variable2;
+    }
+    attribute != CLASS
+}
+
+// The conditions that look at one event alone and are not settled by its class.
+fn other_mask(p: Pattern) -> u64
+    requires { ⌜ p .c ≤ mostConditions ⌝ }
+    ensures { λ r. ⌜ r ≡ otherMask (conditionAt p) (p .c) ⌝ }
+{
+    let c = p.c;
+    let mut bits: u64 = 0;
+    let mut i = 0;
+    while i < c {
+        bits = bits
+            + numbers::weight_if(
+                is_other(p.forms[i], p.variables[i], p.variables2[i], p.attributes[i]),
+                i,
+            );
+        i += 1;
+    }
+    bits
+}
+
+// ## The plan, place by place
+
+// What stands at a place of the plan.
+fn place(p: Pattern, at: usize) -> u64
+    requires { ⌜ InOrder p × (at < planRoom) ⌝ }
+    ensures { λ r. ⌜ Placed p at r ⌝ }
+{
+    if at < FIRST_MASK {
+        if at < p.c {
+            return word_at(p, at);
+        }
+        return 0;
+    }
+    if at < FIRST_JOINS {
+        let beyond = at - FIRST_MASK;
+        return variable_mask(p, beyond / MOST_VARIABLES, beyond % MOST_VARIABLES);
+    }
+    if at < FIRST_CLASS {
+        return join_mask(p, at - FIRST_JOINS);
+    }
+    if at < OTHERS {
+        return class_mask(p, at - FIRST_CLASS);
+    }
+    other_mask(p)
+}
+
+// What a pass prepares once a call.
+pub fn plan_of(p: Pattern) -> [u64; 97]
+    requires { ⌜ InOrder p ⌝ }
+    ensures { λ r. ⌜ IsPlan p r ⌝ }
+{
+    let mut plan = [0u64; 97];
+    let mut at = 0;
+    while at < PLAN_ROOM {
+        plan[at] = place(p, at);
+        at += 1;
+    }
+    plan
+}
+
+// ## Once a record
+
+// The variables whose own conditions hold of record i, by the plan of a pattern of n variables and c conditions. The plan
+// has settled those on class; the others are settled here.
+pub fn can_fire(plan: &[u64; 97], n: usize, c: usize, block: &[u8], i: usize) -> u64
+    requires { ⌜ Sound (now plan) × Classed (now plan) n c × (n ≤ mostVariables) × (c ≤ mostConditions) × (recordBytes * i + recordBytes ≤ length (now block)) ⌝ }
     ensures { λ r. ⌜ (r ≡ canBy (now (plan .entry)) n c (now (block .entry)) i) × (r < 2 ^ n) ⌝ }
 {
-    let r = records::unpack(block, i);
-    let mut can = numbers::weight(n) - 1;
-    let mut k = 0;
-    while k < c {
-        if can == 0 {
-            return 0;
-        }
-        can = settle(can, plan[k], r);
-        k += 1;
+    let event_type = numbers::byte(block, RECORD_BYTES * i + 1) as usize;
+    let mut can = plan[FIRST_CLASS + event_type / TYPES_TOGETHER];
+    let mut rest = plan[OTHERS];
+    while rest != 0 {
+        let at = numbers::lowest_bit(rest);
+        can = settle(can, plan[at], records::unpack(block, i));
+        rest = rest - numbers::weight(at);
     }
     can
 }
@@ -227,7 +320,7 @@ pub fn can_fire(plan: &[u64; 80], n: usize, c: usize, block: &[u8], i: usize) ->
 // ## Once a reading
 
 // Whether v leaves the state: it loops, or it opens.
-pub fn leaves(plan: &[u64; 80], state: u64, v: usize) -> bool
+pub fn leaves(plan: &[u64; 97], state: u64, v: usize) -> bool
     requires { ⌜ (length (now plan) ≡ planRoom) × (v < mostVariables) ⌝ }
     ensures { λ r. ⌜ r ≡ leavesBy (now (plan .entry)) state v ⌝ }
 {
@@ -238,7 +331,7 @@ pub fn leaves(plan: &[u64; 80], state: u64, v: usize) -> bool
 }
 
 // Whether record i is later than everything bound, where the order mark asks it.
-pub fn is_later(plan: &[u64; 80], block: &[u8], i: usize, v: usize, slot: &[u8]) -> bool
+pub fn is_later(plan: &[u64; 97], block: &[u8], i: usize, v: usize, slot: &[u8]) -> bool
     requires { ⌜ Fit (now plan) (now block) i (now slot) × (v < mostVariables) ⌝ }
     ensures { λ r. ⌜ r ≡ laterBy (now (plan .entry)) (now (block .entry)) i v (heldIn (now (slot .entry))) ⌝ }
 {
@@ -254,13 +347,14 @@ pub fn is_later(plan: &[u64; 80], block: &[u8], i: usize, v: usize, slot: &[u8])
 }
 
 // The new event's value in a condition that joins v, raised.
-fn new_value(k: Condition, v: usize, r: Record) -> u64
-    ensures { λ x. ⌜ x ≡ raise (value (sideOf v k) r) ⌝ }
+fn new_value(k: Condition, v: usize, block: &[u8], i: usize) -> u64
+    requires { ⌜ recordBytes * i + recordBytes ≤ length (now block) ⌝ }
+    ensures { λ x. ⌜ x ≡ raise (value (sideOf v k) (recordAt (now (block .entry)) i)) ⌝ }
 {
     if k.variable as usize == v {
-        return patterns::raised_value(k.attribute, r);
+        return patterns::raised_value(k.attribute, records::unpack(block, i));
     }
-    patterns::raised_value(k.attribute2, r)
+    patterns::raised_value(k.attribute2, records::unpack(block, i))
 }
 
 // How many bindings a condition that joins v is tested with: none where the other variable is not bound.
@@ -309,7 +403,7 @@ fn pair_holds(block: &[u8], slot: &[u8], j: usize, k: Condition, v: usize, x: u6
 
 // Whether every condition that joins v holds of record i with each earlier binding of the other variable. Every
 // combination is tested, and the first that fails settles it.
-pub fn joins_hold(plan: &[u64; 80], block: &[u8], i: usize, v: usize, slot: &[u8]) -> bool
+pub fn joins_hold(plan: &[u64; 97], block: &[u8], i: usize, v: usize, slot: &[u8]) -> bool
     requires { ⌜ Fit (now plan) (now block) i (now slot) × (v < mostVariables) ⌝ }
     ensures { λ r. ⌜ r ≡ joinsBy (now (plan .entry)) (now (block .entry)) i v (bindingsIn (now (slot .entry)) (countIn (now (slot .entry)))) ⌝ }
 {
@@ -319,12 +413,11 @@ pub fn joins_hold(plan: &[u64; 80], block: &[u8], i: usize, v: usize, slot: &[u8
     }
     let state = slots::state_of(slot);
     let count = slots::count_of(slot);
-    let r = records::unpack(block, i);
     let mut hold = true;
     'conditions: while rest != 0 {
         let at = numbers::lowest_bit(rest);
         let k = patterns::unpack_condition(plan[at]);
-        let x = new_value(k, v, r);
+        let x = new_value(k, v, block, i);
         let end = tested(k, v, state, count);
         let mut j: usize = 0;
         while j < end {
@@ -340,27 +433,10 @@ pub fn joins_hold(plan: &[u64; 80], block: &[u8], i: usize, v: usize, slot: &[u8
 }
 
 // Whether record i meets the order mark and every condition that joins v, for the slot's reading.
-pub fn agrees(plan: &[u64; 80], block: &[u8], i: usize, v: usize, slot: &[u8]) -> bool
+pub fn agrees(plan: &[u64; 97], block: &[u8], i: usize, v: usize, slot: &[u8]) -> bool
     requires { ⌜ Fit (now plan) (now block) i (now slot) × (v < mostVariables) ⌝ }
     ensures { λ r. ⌜ r ≡ agreesBy (now (plan .entry)) (now (block .entry)) i v (heldIn (now (slot .entry))) ⌝ }
 {
-    if !is_later(plan, block, i, v, slot) {
-        return false;
-    }
-    joins_hold(plan, block, i, v, slot)
-}
-
-// Whether the step on v fires for the slot's reading at record i, `can` being the variables whose own conditions hold.
-pub fn fires(plan: &[u64; 80], block: &[u8], i: usize, can: u64, v: usize, slot: &[u8]) -> bool
-    requires { ⌜ Fit (now plan) (now block) i (now slot) × (v < mostVariables) ⌝ }
-    ensures { λ r. ⌜ r ≡ firesBy (now (plan .entry)) (now (block .entry)) i can v (heldIn (now (slot .entry))) ⌝ }
-{
-    if !numbers::bit_of(can, v) {
-        return false;
-    }
-    if !leaves(plan, slots::state_of(slot), v) {
-        return false;
-    }
     if !is_later(plan, block, i, v, slot) {
         return false;
     }

@@ -7,7 +7,7 @@ use native.Mathlib.Omega.{arith}
 use borrow.Author.Tests.{lt-ltb, le-ltb, ltb-false, eqb-true, eqb-false}
 use lib.Dec.{eqb, ltb}
 use lib.ListN.{length, take, replicate, length-append, length-replicate, replicate-append-replicate}
-use Rattle.numbers.specs.Numbers.{bytesOf}
+use Rattle.numbers.specs.Numbers.{bytesOf, written}
 use Rattle.numbers.proofs.Cases.{by-test, by-order, neither}
 use Rattle.records.specs.declared.Answer.{Answer}
 use Rattle.records.specs.Blocks.{refused, blockAnswer}
@@ -22,7 +22,6 @@ use Rattle.rule.specs.Lists.{forward}
 use Rattle.rule.specs.Calls.{inputAnswer, patternIn, blockIn, zeros, roomIn, resultOf, mostLive, workPerReading, LimitInOrder, ForwardCall, refused-input, refused-limit, answered}
 use Rattle.rule.proofs.Forward.{forward-is}
 use Rattle.rule.proofs.Inputs.{input-pattern, input-block, input-in-order, times-never-fall}
-use Rattle.slots.specs.Results.{written}
 use Rattle.slots.proofs.Results.{length-bytesOf, bytesOf-append, take-written-all, length-written}
 use Rattle.firing.specs.Plan.{IsPlan}
 use Rattle.forward.specs.Passes.{Prepared, Ran, limitBroken, Finished}

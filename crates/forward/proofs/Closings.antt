@@ -38,7 +38,10 @@ use Rattle.forward.proofs.Rounds.{lines-held, step-held, event-held, la
 
 slots-take : (work : List ℕ) (at m n : ℕ) → slotsAt work at m ≡ take m (slotsAt work at (m + n))
 unfolding slotsAt
-slots-take work at m zero = sym (ap (λ (k : ℕ). take m (slotsAt work at k)) (add-zero m) ∙ take-all m (slotsAt work at m) (omega (arith, length-slotsAt work at m)))
+slots-take work at m zero =
+    sym
+    (ap (λ (k : ℕ). take m (slotsAt work at k)) (add-zero m)
+    ∙ take-all m (slotsAt work at m) (omega (arith, length-slotsAt work at m)))
 slots-take work at m (suc n) =
     slots-take work at m n
     ∙ sym (take-append-le m (slotsAt work at (m + n)) (heldIn (slotAt work (at + slotBytes * (m + n))) ∷ []) (omega (arith, length-slotsAt work at (m + n))))
@@ -64,7 +67,9 @@ pub can-gap : (plan : List ℕ) (n c : ℕ) (bytes : List ℕ) (i : ℕ) → isE
 unfolding canAt
 can-gap plan n c bytes i e = rw (e, canAt)
 
-closing-event : (p : Pattern) (B : Block) (k : ℕ) (l : List Reading) → isEvent B k ≡ true → closing p B k l ≡ lines p pastMark (filter (λ r. not (inWindow p B r k)) l)
+closing-event :
+    (p : Pattern) (B : Block) (k : ℕ) (l : List Reading) → isEvent B k ≡ true
+    → closing p B k l ≡ lines p pastMark (filter (λ r. not (inWindow p B r k)) l)
 unfolding closing
 closing-event p B k l e = rw (e, closing)
 
@@ -76,7 +81,9 @@ pub live-gap : (p : Pattern) (B : Block) (k : ℕ) → isEvent B k ≡ false →
 unfolding live step only
 live-gap p B k e = rw e
 
-module _ (p : Pattern) (o : InOrder p) (plan : List ℕ) (is : IsPlan p plan) (bytes : List ℕ) (rising : TimesNeverFall (recordsOf bytes)) (i : ℕ) (h : i < recordCount bytes) (work : List ℕ) (src count : ℕ) (held : slotsAt work src count ≡ map holding (live p (recordsOf bytes) i)) where
+module _ (p : Pattern) (o : InOrder p) (plan : List ℕ) (is : IsPlan p plan) (bytes : List ℕ)
+    (rising : TimesNeverFall (recordsOf bytes)) (i : ℕ) (h : i < recordCount bytes) (work : List ℕ) (src count : ℕ)
+    (held : slotsAt work src count ≡ map holding (live p (recordsOf bytes) i)) where
   abbrev B : Block
   B = recordsOf bytes
 
@@ -171,23 +178,27 @@ module _ (p : Pattern) (o : InOrder p) (plan : List ℕ) (is : IsPlan p plan) (b
       ∙ lines-held p (o .few) pastMark (filter (λ r. not (inWindow p B r i)) (live p B i))
       ∙ sym (closing-event p B i (live p B i) (same-event e)))
       (λ e.
-      ap₂ (λ (m : ℕ) (l : List Held). linesBy (2 ^ p .n - 1) m l) (sym (mark-gap bytes i e)) (ap (slotsAt work src) (gone-gap bytes i (p .duration) work src count e) ∙ held)
+      ap₂ (λ (m : ℕ) (l : List Held). linesBy (2 ^ p .n - 1) m l) (sym (mark-gap bytes i e))
+      (ap (slotsAt work src) (gone-gap bytes i (p .duration) work src count e) ∙ held)
       ∙ lines-held p (o .few) gapMark (live p B i)
       ∙ sym (closing-gap p B i (live p B i) (same-event e) inside))
 
   -- ## What goes on
 
   pub next-held :
-      stepBy plan bytes i (canAt plan (p .n) (p .c) bytes i) (p .n) (slotsAt work (src + slotBytes * gone) (count - gone)) ≡ map holding (live p B (suc i))
+      stepBy plan bytes i (canAt plan (p .n) (p .c) bytes i) (slotsAt work (src + slotBytes * gone) (count - gone))
+      ≡ map holding (live p B (suc i))
   next-held =
       by-test (isEventBy bytes i)
       (λ e.
-      ap₂ (λ (c : ℕ) (l : List Held). stepBy plan bytes i c (p .n) l) (can-event plan (p .n) (p .c) bytes i e) (rest-held ∙ ap (map holding) (sym (event-drop e)))
+      ap₂ (λ (c : ℕ) (l : List Held). stepBy plan bytes i c l) (can-event plan (p .n) (p .c) bytes i e)
+      (rest-held ∙ ap (map holding) (sym (event-drop e)))
       ∙ step-held p o plan is bytes rising i h (same-event e))
       (λ e.
       let z : count - gone ≡ 0 = omega (arith, gone-gap bytes i (p .duration) work src count e) in
-      ap₂ (λ (c : ℕ) (l : List Held). stepBy plan bytes i c (p .n) l) (can-gap plan (p .n) (p .c) bytes i e) (ap (slotsAt work (src + slotBytes * gone)) z)
-      ∙ step-idle plan bytes i (p .n) (slotsAt work (src + slotBytes * gone) 0)
+      ap₂ (λ (c : ℕ) (l : List Held). stepBy plan bytes i c l) (can-gap plan (p .n) (p .c) bytes i e)
+      (ap (slotsAt work (src + slotBytes * gone)) z)
+      ∙ step-idle plan bytes i (slotsAt work (src + slotBytes * gone) 0)
       ∙ slots-none work (src + slotBytes * gone)
       ∙ ap (map holding) (sym (live-gap p B i (same-event e))))
 
@@ -229,13 +240,16 @@ module _ (p : Pattern) (B : Block) (i : ℕ) (small : (r : Reading) → List·Me
   unfolding long isLong isMet holding
   long-met L room =
       any-map holding (λ (h : Held). ltb mostBindings (length (h .bindings))) (live p B (suc i))
-      ∙ any-same (λ (r : Reading). ltb mostBindings (length r)) (λ (r : Reading). eqb (lastOf r) i && eqb (length r) (suc mostBindings)) (live p B (suc i)) (λ a m. one-test a (next-grown m))
+      ∙ any-same (λ (r : Reading). ltb mostBindings (length r)) (λ (r : Reading). eqb (lastOf r) i && eqb (length r) (suc mostBindings))
+      (live p B (suc i)) (λ a m. one-test a (next-grown m))
 
 pub short-live : (l : List Reading) → long (map holding l) ≡ false → (r : Reading) → List·Memᴰ r l → length r ≤ mostBindings
 unfolding long isLong holding
 short-live l e r m =
     by-order mostBindings (length r)
-    (λ k. absurd (true≢false (sym (any-mem (λ (s : Reading). ltb mostBindings (length s)) m (lt-ltb mostBindings (length r) k)) ∙ sym (any-map holding (λ (h : Held). ltb mostBindings (length (h .bindings))) l) ∙ e)))
+    (λ k.
+    let found = any-mem (λ (s : Reading). ltb mostBindings (length s)) m (lt-ltb mostBindings (length r) k) in
+    absurd (true≢false (sym found ∙ sym (any-map holding (λ (h : Held). ltb mostBindings (length (h .bindings))) l) ∙ e)))
     (λ k. k)
 
 pub live-short : (l : List Reading) → ((r : Reading) → List·Memᴰ r l → length r ≤ mostBindings) → long (map holding l) ≡ false

@@ -50,11 +50,15 @@ module _ (p : Pattern) (B : Block) (L room j n : ℕ) where
   unfolding scan
   scan-9 d e = rw (d, e, scan)
 
-  scan-10 : isMet p B L room j 0 ≡ false → isMet p B L room j 1 ≡ false → isMet p B L room j 3 ≡ true → scan p B L room j (suc n) ≡ refusedWith room 10 j
+  scan-10 :
+      isMet p B L room j 0 ≡ false → isMet p B L room j 1 ≡ false → isMet p B L room j 3 ≡ true
+      → scan p B L room j (suc n) ≡ refusedWith room 10 j
   unfolding scan
   scan-10 c d e = rw (c, d, e, scan)
 
-  scan-on : isMet p B L room j 0 ≡ false → isMet p B L room j 1 ≡ false → isMet p B L room j 3 ≡ false → scan p B L room j (suc n) ≡ scan p B L room (suc j) n
+  scan-on :
+      isMet p B L room j 0 ≡ false → isMet p B L room j 1 ≡ false → isMet p B L room j 3 ≡ false
+      → scan p B L room j (suc n) ≡ scan p B L room (suc j) n
   unfolding scan
   scan-on c d e = rw (c, d, e, scan)
 
@@ -121,7 +125,9 @@ going-start p bytes limit lent work few room =
       low = omega arith;
     }
 
-module _ {p : Pattern} {plan bytes : List ℕ} (q : Prepared p plan bytes) {limit : ℕ} {lent : List ℕ} {i : ℕ} {work result : List ℕ} {half start count : ℕ} {over : Bool} {used readings : ℕ} {short : Bool} {most : ℕ} (g : Going p bytes limit lent i work result half start count over used readings short most) where
+module _ {p : Pattern} {plan bytes : List ℕ} (q : Prepared p plan bytes) {limit : ℕ} {lent : List ℕ} {i : ℕ}
+    {work result : List ℕ} {half start count : ℕ} {over : Bool} {used readings : ℕ} {short : Bool} {most : ℕ}
+    (g : Going p bytes limit lent i work result half start count over used readings short most) where
   abbrev B : Block
   B = recordsOf bytes
 
@@ -152,7 +158,8 @@ module _ {p : Pattern} {plan bytes : List ℕ} (q : Prepared p plan bytes) {limi
         record {
           fit = λ k l.
               let slot : List ℕ = slotAt work (start + slotBytes * k) in
-              fit-holding p (q .pattern) bytes slot i h (reading k) (known p (q .pattern) plan (q .made) bytes (q .times) i (reading k) (live-sound p B i (among k l))) plan (q .made)
+              let is-known = known p (q .pattern) plan (q .made) bytes (q .times) i (reading k) (live-sound p B i (among k l)) in
+              fit-holding p (q .pattern) bytes slot i h (reading k) is-known plan (q .made)
               (length-slotAt work (start + slotBytes * k) (omega (arith, start-in (g .stands))))
               (omega (arith, same-length k l, g .small (reading k) (among k l)))
               (holds k l);
@@ -204,7 +211,9 @@ module _ {p : Pattern} {plan bytes : List ℕ} (q : Prepared p plan bytes) {limi
           let e : start + slotBytes * gone + slotBytes * k ≡ start + slotBytes * (gone + k) = omega arith in
           ap (λ (at : ℕ). isLong (heldIn (slotAt work at))) e ∙ slots-short work start count (gone + k) going-short (omega arith))
 
-      module _ {mark full : ℕ} (isMark : mark ≡ markBy bytes i) (isFull : full ≡ 2 ^ p .n - 1) {result′ : List ℕ} {used′ readings′ : ℕ} {short′ : Bool} (wrote : Wrote result result′ used readings short used′ readings′ short′ (linesBy full mark (slotsAt work start gone))) where
+      module _ {mark full : ℕ} (isMark : mark ≡ markBy bytes i) (isFull : full ≡ 2 ^ p .n - 1) {result′ : List ℕ}
+          {used′ readings′ : ℕ} {short′ : Bool}
+          (wrote : Wrote result result′ used readings short used′ readings′ short′ (linesBy full mark (slotsAt work start gone))) where
         next-told : Told lent result′ used′ readings′ short′ (closed p B (suc i))
         next-told =
             let e : closed p B i ++ linesBy full mark (slotsAt work start gone) ≡ closed p B (suc i) =
@@ -222,10 +231,16 @@ module _ {p : Pattern} {plan bytes : List ℕ} (q : Prepared p plan bytes) {limi
 
         -- ## Going on
 
-        module _ {can : ℕ} (isCan : can ≡ canAt plan (p .n) (p .c) bytes i) {work′ : List ℕ} {half′ start′ count′ : ℕ} {over′ : Bool} (moved : Moved work work′ limit half′ start′ count′ over′ (stepBy plan bytes i can (p .n) (slotsAt work (start + slotBytes * gone) (count - gone)))) (roomy : short′ ≡ false) where
-          is-live : stepBy plan bytes i can (p .n) (slotsAt work (start + slotBytes * gone) (count - gone)) ≡ map holding (live p B (suc i))
+        -- what goes on becomes, by the variables of `can`
+        abbrev next : ℕ → List Held
+        next can = stepBy plan bytes i can (slotsAt work (start + slotBytes * gone) (count - gone))
+
+        module _ {can : ℕ} (isCan : can ≡ canAt plan (p .n) (p .c) bytes i)
+            {work′ : List ℕ} {half′ start′ count′ : ℕ} {over′ : Bool} (moved : Moved work work′ limit half′ start′ count′ over′ (next can))
+            (roomy : short′ ≡ false) where
+          is-live : next can ≡ map holding (live p B (suc i))
           is-live =
-              (λ z. stepBy plan bytes i (isCan z) (p .n) (slotsAt work (start + slotBytes * isGone z) (count - isGone z)))
+              (λ z. stepBy plan bytes i (isCan z) (slotsAt work (start + slotBytes * isGone z) (count - isGone z)))
               ∙ next-held p (q .pattern) plan (q .made) bytes (q .times) i h work start count (g .held)
 
           standing : Standing work′ start′ limit count′ over′ (map holding (live p B (suc i)))
@@ -249,9 +264,12 @@ module _ {p : Pattern} {plan bytes : List ℕ} (q : Prepared p plan bytes) {limi
               ∙ scan-10 p B limit lentRoom i (length B - i) no-11 (sym met-9 ∙ e)
               (met-10 p B limit lentRoom i ∙ lt-ltb limit (length (live p B (suc i))) (omega (arith, next-count)))
 
-          pub going-on : (most′ : ℕ) → over′ ≡ false → count′ ≤ limit → most′ ≡ max most count′ → Going p bytes limit lent (i + 1) work′ result′ half′ start′ count′ over′ used′ readings′ short′ most′
+          pub going-on :
+              (most′ : ℕ) → over′ ≡ false → count′ ≤ limit → most′ ≡ max most count′
+              → Going p bytes limit lent (i + 1) work′ result′ half′ start′ count′ over′ used′ readings′ short′ most′
           going-on most′ e l m =
-              let no-10 : isMet p B limit lentRoom i 3 ≡ false = met-10 p B limit lentRoom i ∙ le-ltb limit (length (live p B (suc i))) (omega (arith, next-count)) in
+              let few = le-ltb limit (length (live p B (suc i))) (omega (arith, next-count)) in
+              let no-10 : isMet p B limit lentRoom i 3 ≡ false = met-10 p B limit lentRoom i ∙ few in
               let low = g .low in
               rw add-one
               (record {
@@ -272,7 +290,9 @@ module _ {p : Pattern} {plan bytes : List ℕ} (q : Prepared p plan bytes) {limi
 
   -- ## The end
 
-  module _ (h : recordCount bytes ≤ i) (upTo : i ≤ recordCount bytes) {full : ℕ} (isFull : full ≡ 2 ^ p .n - 1) {result′ : List ℕ} {used′ readings′ : ℕ} {short′ : Bool} (wrote : Wrote result result′ used readings short used′ readings′ short′ (linesBy full endMark (slotsAt work start count))) where
+  module _ (h : recordCount bytes ≤ i) (upTo : i ≤ recordCount bytes) {full : ℕ} (isFull : full ≡ 2 ^ p .n - 1)
+      {result′ : List ℕ} {used′ readings′ : ℕ} {short′ : Bool}
+      (wrote : Wrote result result′ used readings short used′ readings′ short′ (linesBy full endMark (slotsAt work start count))) where
     at-end : i ≡ length B
     at-end = omega (arith, length-records bytes)
 
@@ -304,7 +324,10 @@ module _ {p : Pattern} {plan bytes : List ℕ} (q : Prepared p plan bytes) {limi
     no-9 = ap (any (λ (r : Reading). eqb (lastOf r) (length B) && eqb (length r) (suc mostBindings))) (live-gap p B (length B) no-event)
 
     no-10 : isMet p B limit lentRoom (length B) 3 ≡ false
-    no-10 = met-10 p B limit lentRoom (length B) ∙ ap (λ (l : List Reading). ltb limit (length l)) (live-gap p B (length B) no-event) ∙ le-ltb limit 0 (omega arith)
+    no-10 =
+        met-10 p B limit lentRoom (length B)
+        ∙ ap (λ (l : List Reading). ltb limit (length l)) (live-gap p B (length B) no-event)
+        ∙ le-ltb limit 0 (omega arith)
 
     end-done : short′ ≡ false → forward p B limit lentRoom ≡ success lentRoom (report p B) (peak p B (length B))
     unfolding report scan
@@ -317,7 +340,8 @@ module _ {p : Pattern} {plan bytes : List ℕ} (q : Prepared p plan bytes) {limi
         let used-is = all-told .used-is e in
         let half-used : used′ / 2 ≡ length (pack (report p B)) = omega arith in
         let high : most ≡ peak p B (length B) = g .high ∙ ap (peak p B) at-end in
-        let is-answer : answer ≡ success lentRoom (report p B) (peak p B (length B)) .answer = a ∙ (λ z. record { code = 0; place = 0; used = half-used z; readings = all-told .readings-is e z; peak = high z }) in
+        let is-answer : answer ≡ success lentRoom (report p B) (peak p B (length B)) .answer =
+        a ∙ (λ z. record { code = 0; place = 0; used = half-used z; readings = all-told .readings-is e z; peak = high z }) in
         record {
           refuses = λ n. absurd (n (ap (λ (x : Answer). x .code) a));
           succeeds = λ z.

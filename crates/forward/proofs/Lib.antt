@@ -1,13 +1,15 @@
+pub mod Flags
 pub mod Parts
 pub mod Longs
 pub mod Memory
 pub mod Lines
+pub mod Lists
+pub mod Turns
 pub mod Steps
 pub mod Gone
 pub mod Adding
 pub mod Fits
 pub mod Moving
-pub mod Lists
 pub mod Rounds
 pub mod Closings
 pub mod Going

@@ -9,7 +9,7 @@ use native.Mathlib.Numerals.{add-one}
 use native.Mathlib.Omega.{arith}
 use borrow.Author.Tests.{le-ltb, lt-ltb, ltb-true}
 use lib.ListN.{length, length-append}
-use Rattle.numbers.specs.Numbers.{bytesOf}
+use Rattle.numbers.specs.Numbers.{bytesOf, written}
 use Rattle.numbers.specs.Bits.{within}
 use Rattle.automaton.specs.Lists.{keep, filter}
 use Rattle.rule.specs.Rule.{Reading, Line, packed, packBindings, pack}
@@ -17,7 +17,7 @@ use Rattle.rule.specs.Lists.{line}
 use Rattle.rule.proofs.Pack.{length-pack-bindings}
 use Rattle.rule.proofs.Found.{pack-append}
 use Rattle.slots.specs.Slots.{Held, slotBytes, stateIn, heldIn, slotAt, slotsAt}
-use Rattle.slots.specs.Results.{lineNumbers, written}
+use Rattle.slots.specs.Results.{lineNumbers}
 use Rattle.slots.proofs.Results.{length-bytesOf, written-lines, length-written}
 use Rattle.forward.specs.Live.{isFullBy, linesBy}
 use Rattle.forward.specs.Lines.{Wrote}

@@ -2,19 +2,20 @@
 -- Assumes nothing.
 use mathlib.Core.Path.{_≡_, refl, sym, ap, _∙_}
 use mathlib.Core.Bool.{Bool, true, false, not, _||_, true≢false}
-use mathlib.Core.List.{List, [], _∷_, _++_, map, List·Memᴰ, List·Memᴰ·head, List·Memᴰ·tail, List·Memᴰ·not-nil, List·Memᴰ·cases-cons}
+use mathlib.Core.List.{List, [], _∷_, _++_, map, append-nil, List·Memᴰ, List·Memᴰ·head, List·Memᴰ·tail, List·Memᴰ·not-nil, List·Memᴰ·cases-cons}
 use mathlib.Core.Logic.{_⊎_, inl, inr}
-use Prim.Native.Nat.{ℕ, zero, suc, _+_, _≤_, _<_}
-use native.Mathlib.Nat.{le-of-suc-le-suc, not-suc-le-zero}
+use Prim.Native.Nat.{ℕ, zero, suc, _+_, _-_, _≤_, _<_}
+use native.Mathlib.Nat.{add-zero, add-suc, le-of-suc-le-suc, not-suc-le-zero}
 use native.Mathlib.Omega.{arith}
 use lib.ListN.{length, take, drop, getD}
 use lib.Seq.{take-nil, drop-nil}
 use Rattle.numbers.specs.Numbers.{upto}
 use Rattle.numbers.proofs.Cases.{by-test}
+use Rattle.numbers.proofs.Upto.{upto-snoc}
 use Rattle.automaton.specs.Lists.{keep, filter, collect}
 use Rattle.automaton.proofs.Ordered.{Ordered}
 use Rattle.rule.specs.Lists.{only, orElse, any}
-use Rattle.forward.proofs.Lines.{map-append}
+use Rattle.forward.proofs.Lines.{filter-append, map-append}
 
 pub upto-below : (k m : ℕ) {w : ℕ} → List·Memᴰ w (upto k m) → w < k + m
 unfolding upto
@@ -41,7 +42,7 @@ module _ {A : Type 0} where
   any-same f g [] h = refl
   any-same f g (a ∷ l) h = λ i. h a (List·Memᴰ·head refl) i || any-same f g l (λ b m. h b (List·Memᴰ·tail m)) i
 
-  filter-none : (f : A → Bool) (l : List A) → ((a : A) → List·Memᴰ a l → f a ≡ false) → filter f l ≡ []
+  pub filter-none : (f : A → Bool) (l : List A) → ((a : A) → List·Memᴰ a l → f a ≡ false) → filter f l ≡ []
   unfolding filter keep
   filter-none f [] h = refl
   filter-none f (a ∷ l) h = ap (λ (t : Bool). keep t a (filter f l)) (h a (List·Memᴰ·head refl)) ∙ filter-none f l (λ b m. h b (List·Memᴰ·tail m))
@@ -59,7 +60,10 @@ module _ {A : Type 0} where
     behind : (x : A) (l : List A) → ((y : A) → List·Memᴰ y l → Later x y) → f x ≡ false → (y : A) → List·Memᴰ y l → f y ≡ false
     behind x l h e y m = by-test (f y) (λ t. absurd (true≢false (sym (h y m t) ∙ e))) (λ t. t)
 
-    pub front-take : (l : List A) (m : ℕ) (d : A) → Ordered Later l → m ≤ length l → ((k : ℕ) → k < m → f (getD l k d) ≡ true) → (m < length l → f (getD l m d) ≡ false) → filter f l ≡ take m l
+    pub front-take :
+        (l : List A) (m : ℕ) (d : A) → Ordered Later l → m ≤ length l → ((k : ℕ) → k < m → f (getD l k d) ≡ true)
+        → (m < length l → f (getD l m d) ≡ false)
+        → filter f l ≡ take m l
     unfolding filter keep
     front-take [] m d o h g s = sym (take-nil m)
     front-take (x ∷ l) zero d o h g s =
@@ -69,7 +73,10 @@ module _ {A : Type 0} where
         ap (λ (t : Bool). keep t x (filter f l)) (g 0 (omega arith))
         ∙ ap (λ (r : List A). x ∷ r) (front-take l m d (o .1) (le-of-suc-le-suc h) (λ k q. g (suc k) (omega arith)) (λ q. s (omega arith)))
 
-    pub front-drop : (l : List A) (m : ℕ) (d : A) → Ordered Later l → m ≤ length l → ((k : ℕ) → k < m → f (getD l k d) ≡ true) → (m < length l → f (getD l m d) ≡ false) → filter (λ a. not (f a)) l ≡ drop m l
+    pub front-drop :
+        (l : List A) (m : ℕ) (d : A) → Ordered Later l → m ≤ length l → ((k : ℕ) → k < m → f (getD l k d) ≡ true)
+        → (m < length l → f (getD l m d) ≡ false)
+        → filter (λ a. not (f a)) l ≡ drop m l
     unfolding filter keep
     front-drop [] m d o h g s = sym (drop-nil m)
     front-drop (x ∷ l) zero d o h g s =
@@ -79,6 +86,23 @@ module _ {A : Type 0} where
     front-drop (x ∷ l) (suc m) d o h g s =
         ap (λ (t : Bool). keep (not t) x (filter (λ a. not (f a)) l)) (g 0 (omega arith))
         ∙ front-drop l m d (o .1) (le-of-suc-le-suc h) (λ k q. g (suc k) (omega arith)) (λ q. s (omega arith))
+
+-- where none behind the first n passes
+pub filter-upto : (f : ℕ → Bool) (n m : ℕ) → n ≤ m → ((v : ℕ) → n ≤ v → f v ≡ false) → filter f (upto 0 m) ≡ filter f (upto 0 n)
+unfolding filter keep
+filter-upto f n m h g =
+    let e : n + (m - n) ≡ m = omega arith in
+    ap (λ (k : ℕ). filter f (upto 0 k)) (sym e) ∙ go (m - n)
+  where
+    go : (d : ℕ) → filter f (upto 0 (n + d)) ≡ filter f (upto 0 n)
+    go zero = ap (λ (k : ℕ). filter f (upto 0 k)) (add-zero n)
+    go (suc d) =
+        ap (λ (k : ℕ). filter f (upto 0 k)) (add-suc n d)
+        ∙ ap (filter f) (upto-snoc 0 (n + d))
+        ∙ filter-append f (upto 0 (n + d)) ((0 + (n + d)) ∷ [])
+        ∙ ap (λ (t : Bool). filter f (upto 0 (n + d)) ++ keep t (0 + (n + d)) []) (g (0 + (n + d)) (omega arith))
+        ∙ append-nil (filter f (upto 0 (n + d)))
+        ∙ go d
 
 module _ {A B : Type 0} (f : A → B) where
   pub map-same : (g : A → B) (l : List A) → ((a : A) → List·Memᴰ a l → f a ≡ g a) → map f l ≡ map g l

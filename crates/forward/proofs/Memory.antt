@@ -1,7 +1,7 @@
 -- Readings put one after the other into working memory: one by one, one part after another, and what stands elsewhere is
 -- kept. Assumes nothing.
 use mathlib.Core.Path.{_≡_, refl, sym, ap, _∙_}
-use mathlib.Core.Logic.{_⊎_, ⊎-elim}
+use mathlib.Core.Logic.{_⊎_, ⊎-elim, inl, inr}
 use mathlib.Core.Bool.{Bool, true, false}
 use mathlib.Core.List.{List, [], _∷_, _++_, append-assoc, append-nil}
 use Prim.Native.Nat.{ℕ, _+_, _-_, _*_, _≤_, _<_}
@@ -9,14 +9,15 @@ use native.Mathlib.Numerals.{add-one}
 use native.Mathlib.Omega.{arith}
 use lib.ListN.{length, take, drop, length-append}
 use lib.Seq.{take-take, drop-drop}
-use borrow.Rule.Slice.PartMut.{putMid}
-use Rattle.slots.specs.Slots.{Held, slotBytes, heldIn, slotAt, slotsAt}
-use Rattle.slots.specs.Results.{written}
+use Rattle.numbers.specs.Numbers.{written}
+use Rattle.rule.specs.Promises.{mostBindings}
+use Rattle.slots.specs.Slots.{Held, slotBytes, countIn, heldIn, grow, slotAt, slotsAt}
 use Rattle.slots.proofs.Results.{put-written, take-written, drop-written, length-written}
-use Rattle.slots.proofs.Slots.{slotAt-before, slotAt-after, slotsAt-stored}
+use Rattle.slots.proofs.Slots.{slotAt-before, slotAt-after, slotAt-written, slotsAt-stored}
 use Rattle.forward.specs.Live.{isLong, long}
-use Rattle.forward.specs.Memory.{Standing, Outside, Added}
-use Rattle.forward.proofs.Longs.{long-short, long-over}
+use Rattle.forward.specs.Memory.{Standing, Outside, Apart, Added}
+use Rattle.forward.proofs.Parts.{partAt, putSlot, part-slot}
+use Rattle.forward.proofs.Longs.{long-short, long-over, grow-short}
 
 -- ## What stands elsewhere
 
@@ -41,16 +42,26 @@ pub outside-written : (w : List ℕ) (at : ℕ) (bytes : List ℕ) → at ≤ le
 outside-written w at bytes h =
     record { before = take-written w at bytes h at (omega arith); after = drop-written w at bytes h (at + length bytes) (omega arith) }
 
--- the slots before dst, or behind all that stands from there
-pub slot-kept :
-    (old new : List ℕ) (src count dst limit k : ℕ) → (src + slotBytes * count ≤ dst) ⊎ (dst + slotBytes * limit ≤ src) → k < count
-    → Outside old new dst (dst + slotBytes * limit)
-    → slotAt new (src + slotBytes * k) ≡ slotAt old (src + slotBytes * k)
-slot-kept old new src count dst limit k a h o =
-    ⊎-elim
-    (λ (p : src + slotBytes * count ≤ dst). slotAt-before new old dst (src + slotBytes * k) (o .before) (omega arith))
-    (λ (p : dst + slotBytes * limit ≤ src). slotAt-after new old (dst + slotBytes * limit) (src + slotBytes * k) (o .after) (omega arith))
-    a
+-- a slot before dst, or behind all that stands from there
+module _ {low high dst limit : ℕ} (apart : Apart low high dst limit) where
+  pub apart-part : (low′ high′ : ℕ) → low ≤ low′ → high′ ≤ high → Apart low′ high′ dst limit
+  apart-part low′ high′ h k =
+      record { sides = ⊎-elim (λ (p : high ≤ dst). inl (omega arith)) (λ (p : dst + slotBytes * limit ≤ low). inr (omega arith)) (apart .sides) }
+
+  pub slot-kept :
+      (old new : List ℕ) (at : ℕ) → low ≤ at → at + slotBytes ≤ high → Outside old new dst (dst + slotBytes * limit)
+      → slotAt new at ≡ slotAt old at
+  slot-kept old new at h k o =
+      ⊎-elim
+      (λ (p : high ≤ dst). slotAt-before new old dst at (o .before) (omega arith))
+      (λ (p : dst + slotBytes * limit ≤ low). slotAt-after new old (dst + slotBytes * limit) at (o .after) (omega arith))
+      (apart .sides)
+
+  -- the same, as a part that is lent
+  pub part-kept :
+      (old new : List ℕ) (at : ℕ) → low ≤ at → at + slotBytes ≤ high → Outside old new dst (dst + slotBytes * limit)
+      → partAt new at ≡ slotAt old at
+  part-kept old new at h k o = part-slot new at ∙ slot-kept old new at h k o
 
 -- ## Put out
 
@@ -93,25 +104,61 @@ added-stored w slot dst limit t o h k n short =
           record {
             count = length-snoc out (heldIn slot) t (s .count);
             noted = long-short (heldIn slot) out o short (s .noted);
-            held = λ f u. ap (slotsAt (written w at slot) dst) (add-one t) ∙ slotsAt-stored w dst t slot inside n ∙ ap (λ (l : List Held). l ++ (heldIn slot ∷ [])) (s .held f (omega arith));
+            held = λ f u.
+                ap (slotsAt (written w at slot) dst) (add-one t)
+                ∙ slotsAt-stored w dst t slot inside n
+                ∙ ap (λ (l : List Held). l ++ (heldIn slot ∷ [])) (s .held f (omega arith));
           };
       outside = outside-wider w (written w at slot) at (at + length slot) dst (dst + slotBytes * limit) (outside-written w at slot inside) (omega arith) (omega arith);
       size = length-written w at slot inside (omega arith);
     }
 
 -- the same, as a part that was lent comes back
+module _ (w slot : List ℕ) (at : ℕ) (inside : at ≤ length w) (size : length slot ≡ slotBytes) where
+  put-is : putSlot w at slot ≡ written w at slot
+  put-is = put-written at (at + slotBytes) w slot (omega arith)
+
+  -- lent once more
+  pub put-part : partAt (putSlot w at slot) at ≡ slot
+  put-part = part-slot (putSlot w at slot) at ∙ ap (λ (m : List ℕ). slotAt m at) put-is ∙ slotAt-written w at slot inside size
+
+  put-again : (more : List ℕ) → length more ≡ slotBytes → putSlot (putSlot w at slot) at more ≡ written w at more
+  put-again more n =
+      put-written at (at + slotBytes) (putSlot w at slot) more (omega arith)
+      ∙ ap (λ (m : List ℕ). written m at more) put-is
+      ∙ (λ i. take-written w at slot inside at (omega arith) i ++ more ++ drop-written w at slot inside (at + length more) (omega arith) i)
+
 pub added-put :
-    (w slot : List ℕ) (dst limit t : ℕ) (o : Bool) → t < limit → dst + slotBytes * limit ≤ length w → length slot ≡ slotBytes
+    {w : List ℕ} {dst limit t : ℕ} {o : Bool} (slot : List ℕ) → t < limit → dst + slotBytes * limit ≤ length w
+    → length slot ≡ slotBytes
     → isLong (heldIn slot) ≡ false
-    → Added w (putMid (dst + slotBytes * t) (dst + slotBytes * t + slotBytes - (dst + slotBytes * t)) w slot) dst limit t o (t + 1) o (heldIn slot ∷ [])
-added-put w slot dst limit t o h k n short =
-    rw (put-written (dst + slotBytes * t) (dst + slotBytes * t + slotBytes) w slot (omega arith)) (added-stored w slot dst limit t o h k n short)
+    → Added w (putSlot w (dst + slotBytes * t) slot) dst limit t o (t + 1) o (heldIn slot ∷ [])
+added-put {w} {dst} {limit} {t} {o} slot h k n short =
+    rw (put-is w slot (dst + slotBytes * t) (omega arith) n) (added-stored w slot dst limit t o h k n short)
+
+-- a reading stored in the next slot, then bound there
+pub added-bound :
+    {w slot first : List ℕ} {dst limit t : ℕ} {o : Bool} (i v : ℕ) (bound : List ℕ) → t < limit → dst + slotBytes * limit ≤ length w
+    → length slot ≡ slotBytes
+    → countIn slot < mostBindings
+    → first ≡ slot
+    → heldIn bound ≡ grow i v (heldIn (partAt (putSlot w (dst + slotBytes * t) first) (dst + slotBytes * t)))
+    → length bound ≡ slotBytes
+    → Added w (putSlot (putSlot w (dst + slotBytes * t) first) (dst + slotBytes * t) bound) dst limit t o (t + 1) o (grow i v (heldIn slot) ∷ [])
+added-bound {w} {slot} {first} {dst} {limit} {t} {o} i v bound h k n few same grown size =
+    let at : ℕ = dst + slotBytes * t in
+    let inside : at ≤ length w = omega arith in
+    let m : length first ≡ slotBytes = ap length same ∙ n in
+    let part : partAt (putSlot w at first) at ≡ slot = put-part w first at inside m ∙ same in
+    let holds : heldIn bound ≡ grow i v (heldIn slot) = grown ∙ ap (λ (s : List ℕ). grow i v (heldIn s)) part in
+    let short : isLong (heldIn bound) ≡ false = ap isLong holds ∙ grow-short slot i v few in
+    rw (put-again w first at inside m bound size) (rw holds at (added-stored w bound dst limit t o h k size short))
 
 -- no room: only counted
 pub added-over :
-    (w : List ℕ) (x : Held) (dst limit t : ℕ) (o : Bool) → limit ≤ t → isLong x ≡ false
+    {w : List ℕ} {x : Held} {dst limit t : ℕ} {o : Bool} → limit ≤ t → isLong x ≡ false
     → Added w w dst limit t o (t + 1) o (x ∷ [])
-added-over w x dst limit t o h short =
+added-over {w} {x} {dst} {limit} {t} {o} h short =
     record {
       total = refl;
       behind = λ out s.
@@ -125,8 +172,10 @@ added-over w x dst limit t o h short =
     }
 
 -- a 33rd binding: noted
-pub added-long : (w : List ℕ) (x : Held) (dst limit t : ℕ) (o : Bool) → isLong x ≡ true → Added w w dst limit t o (t + 1) true (x ∷ [])
-added-long w x dst limit t o h =
+pub added-long :
+    {w : List ℕ} {x : Held} {dst limit t : ℕ} {o : Bool} → isLong x ≡ true
+    → Added w w dst limit t o (t + 1) true (x ∷ [])
+added-long {w} {x} {dst} {limit} {t} {o} h =
     record {
       total = refl;
       behind = λ out s.

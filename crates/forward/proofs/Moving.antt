@@ -10,7 +10,7 @@ use lib.ListN.{length}
 use Rattle.slots.specs.Slots.{Held, slotBytes, slotsAt}
 use Rattle.slots.proofs.Slots.{length-slotsAt}
 use Rattle.forward.specs.Live.{long, stepBy}
-use Rattle.forward.specs.Memory.{Added, Stands, Moved}
+use Rattle.forward.specs.Memory.{Apart, Added, Stands, Moved}
 use Rattle.forward.proofs.Steps.{step-idle}
 use Rattle.forward.proofs.Memory.{standing-none}
 
@@ -24,11 +24,11 @@ module _ {lent limit half start count : ℕ} (s : Stands lent limit half start c
   pub start-in : start + slotBytes * count ≤ lent
   start-in = let room = s .room in let to = s .to in let h = half-in in omega arith
 
-  pub halves-apart : (start + slotBytes * count ≤ slotBytes * limit - half) ⊎ (slotBytes * limit - half + slotBytes * limit ≤ start)
+  pub halves-apart : Apart start (start + slotBytes * count) (slotBytes * limit - half) limit
   halves-apart =
       let to = s .to in
       let from = s .from in
-      ⊎-elim (λ (e : half ≡ 0). inl (omega arith)) (λ (e : half ≡ slotBytes * limit). inr (omega arith)) (s .side)
+      record { sides = ⊎-elim (λ (e : half ≡ 0). inl (omega arith)) (λ (e : half ≡ slotBytes * limit). inr (omega arith)) (s .side) }
 
   pub few-stand : count ≤ limit
   few-stand = let to = s .to in let from = s .from in omega arith
@@ -37,12 +37,13 @@ module _ {lent limit half start count : ℕ} (s : Stands lent limit half start c
   other-side = ⊎-elim (λ (e : half ≡ 0). inr (omega arith)) (λ (e : half ≡ slotBytes * limit). inl (omega arith)) (s .side)
 
 pub moved-idle :
-    (work plan bytes : List ℕ) (i can n limit half start count : ℕ) (over : Bool) → can ≡ 0 → Stands (length work) limit half start count
+    {work : List ℕ} {can limit half start count : ℕ} {over : Bool} (plan bytes : List ℕ) (i : ℕ) → can ≡ 0 → Stands (length work) limit half start count
     → long (slotsAt work start count) ≡ false
     → over ≡ false
-    → Moved work work limit half start count over (stepBy plan bytes i can n (slotsAt work start count))
-moved-idle work plan bytes i can n limit half start count over z s l o =
-    let e : stepBy plan bytes i can n (slotsAt work start count) ≡ slotsAt work start count = ap (λ (k : ℕ). stepBy plan bytes i k n (slotsAt work start count)) z ∙ step-idle plan bytes i n (slotsAt work start count) in
+    → Moved work work limit half start count over (stepBy plan bytes i can (slotsAt work start count))
+moved-idle {work} {can} {limit} {half} {start} {count} {over} plan bytes i z s l o =
+    let l₀ : List Held = slotsAt work start count in
+    let e : stepBy plan bytes i can l₀ ≡ l₀ = ap (λ (k : ℕ). stepBy plan bytes i k l₀) z ∙ step-idle plan bytes i l₀ in
     rw e
     (record {
       standing = record { count = sym (length-slotsAt work start count); noted = o ∙ sym l; held = λ f h. refl };

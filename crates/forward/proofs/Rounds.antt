@@ -1,7 +1,7 @@
 -- One record on the readings that working memory holds is one record by the rule: what the live readings become, which of
 -- them close, and which are full. Assumes nothing.
 use mathlib.Core.Path.{_≡_, refl, sym, ap, ap₂, _∙_}
-use mathlib.Core.Bool.{Bool, true, not}
+use mathlib.Core.Bool.{Bool, true, false, not, _&&_}
 use mathlib.Core.List.{List, [], _∷_, _++_, map, map-map, List·Memᴰ, List·Memᴰ·head, List·Memᴰ·tail, List·Memᴰ·not-nil}
 use Prim.Native.Nat.{ℕ, zero, suc, _+_, _-_, _^_, _≤_, _<_}
 use native.Mathlib.Nat.{pow-suc}
@@ -12,7 +12,7 @@ use Rattle.numbers.specs.Numbers.{upto, every}
 use Rattle.numbers.specs.Bits.{mask, within}
 use Rattle.numbers.proofs.Cases.{by-order, same-test}
 use Rattle.numbers.proofs.Every.{every-of, every-true}
-use Rattle.numbers.proofs.Bits.{within-mask, within-mask-of}
+use Rattle.numbers.proofs.Bits.{bit-high, mask-bound, within-mask, within-mask-of}
 use Rattle.records.specs.declared.Record.{Record}
 use Rattle.records.specs.Records.{recordAt, recordCount, recordsOf, eventKind}
 use Rattle.records.proofs.Listed.{length-records, record-listed}
@@ -33,11 +33,11 @@ use Rattle.rule.proofs.Sense.{variable-in, below}
 use Rattle.slots.specs.Slots.{Held, holding, grow}
 use Rattle.slots.proofs.Holding.{holding-grow, holding-bit}
 use Rattle.firing.specs.Plan.{IsPlan}
-use Rattle.firing.specs.Firing.{canBy, firesBy, ReadBelow}
+use Rattle.firing.specs.Firing.{ownHolds, canBy, leavesBy, agreesBy, firesBy, ReadBelow}
 use Rattle.firing.proofs.FiresBy.{fires-by}
 use Rattle.forward.specs.Live.{firedBy, extendBy, unbound, stepBy, isEventBy, isLate, isFullBy, linesBy}
 use Rattle.forward.proofs.Lines.{map-append}
-use Rattle.forward.proofs.Lists.{upto-below, filter-same, map-same, map-filter, map-collect, map-or-else, collect-only}
+use Rattle.forward.proofs.Lists.{upto-below, filter-upto, filter-same, map-same, map-filter, map-collect, map-or-else, collect-only}
 
 -- ## Full readings
 
@@ -63,10 +63,13 @@ full-held p few r =
 pub lines-held : (p : Pattern) → p .n ≤ mostVariables → (mark : ℕ) (l : List Reading) → linesBy (2 ^ p .n - 1) mark (map holding l) ≡ lines p mark l
 unfolding linesBy lines holding
 lines-held p few mark l =
-    ap (map (λ (h : Held). line mark (h .bindings))) (map-filter holding (isFullBy (2 ^ p .n - 1)) l ∙ ap (map holding) (filter-same (λ r. isFullBy (2 ^ p .n - 1) (holding r)) (isFull p) l (λ r m. full-held p few r)))
+    ap (map (λ (h : Held). line mark (h .bindings)))
+    (map-filter holding (isFullBy (2 ^ p .n - 1)) l
+    ∙ ap (map holding) (filter-same (λ r. isFullBy (2 ^ p .n - 1) (holding r)) (isFull p) l (λ r m. full-held p few r)))
     ∙ map-map (λ (h : Held). line mark (h .bindings)) holding (filter (isFull p) l)
 
-module _ (p : Pattern) (o : InOrder p) (plan : List ℕ) (is : IsPlan p plan) (bytes : List ℕ) (rising : TimesNeverFall (recordsOf bytes)) where
+module _ (p : Pattern) (o : InOrder p) (plan : List ℕ) (is : IsPlan p plan) (bytes : List ℕ)
+    (rising : TimesNeverFall (recordsOf bytes)) where
   abbrev B : Block
   B = recordsOf bytes
 
@@ -103,33 +106,61 @@ module _ (p : Pattern) (o : InOrder p) (plan : List ℕ) (is : IsPlan p plan) (b
 
     -- ## Going on
 
-    fired-held : (r : Reading) → ReadBelow p i r → firedBy plan bytes i can (p .n) (holding r) ≡ map holding (fired p B i r)
+    -- no variable behind the last has its bit
+    fails-behind : (v : ℕ) (h : Held) → p .n ≤ v → firesBy plan bytes i can v h ≡ false
+    unfolding firesBy canBy
+    fails-behind v h l =
+        let own : ℕ → Bool = λ v. every (ownHolds plan bytes i v) (p .c) in
+        ap (λ (t : Bool). t && (leavesBy plan (h .state) v && agreesBy plan bytes i v h))
+        (bit-high (mask own (p .n)) (p .n) v (mask-bound own (p .n)) l)
+
+    fired-variables :
+        (r : Reading) → ReadBelow p i r
+        → filter (λ v. firesBy plan bytes i can v (holding r)) (upto 0 mostVariables) ≡ filter (λ v. fires p B r v i) (upto 0 (p .n))
+    fired-variables r k =
+        let few = o .few in
+        filter-upto (λ v. firesBy plan bytes i can v (holding r)) (p .n) mostVariables few (λ v l. fails-behind v (holding r) l)
+        ∙ filter-same (λ v. firesBy plan bytes i can v (holding r)) (λ v. fires p B r v i) (upto 0 (p .n))
+        (λ v m. fires-by p o plan is bytes rising i h v (omega (arith, upto-below 0 (p .n) m)) r k)
+
+    fired-held : (r : Reading) → ReadBelow p i r → firedBy plan bytes i can (holding r) ≡ map holding (fired p B i r)
     unfolding firedBy fired
     fired-held r k =
         let few = o .few in
         let grown : ℕ → Reading = λ v. record { variable = v; at = i } ∷ r in
-        ap (map (λ v. grow i v (holding r))) (filter-same (λ v. firesBy plan bytes i can v (holding r)) (λ v. fires p B r v i) (upto 0 (p .n)) (λ v m. fires-by p o plan is bytes rising i h v (omega (arith, upto-below 0 (p .n) m)) r k))
-        ∙ map-same (λ v. grow i v (holding r)) (λ v. holding (grown v)) (filter (λ v. fires p B r v i) (upto 0 (p .n)))
+        let chosen : List ℕ = filter (λ v. fires p B r v i) (upto 0 (p .n)) in
+        ap (map (λ v. grow i v (holding r))) (fired-variables r k)
+        ∙ map-same (λ v. grow i v (holding r)) (λ v. holding (grown v)) chosen
         (λ v m. holding-grow r i v (omega (arith, upto-below 0 (p .n) (mem-filter (λ v. fires p B r v i) (upto 0 (p .n)) m .1))))
-        ∙ sym (map-map holding grown (filter (λ v. fires p B r v i) (upto 0 (p .n))))
+        ∙ sym (map-map holding grown chosen)
 
-    extend-held : (r : Reading) → ReadBelow p i r → extendBy plan bytes i can (p .n) (holding r) ≡ map holding (orElse r (fired p B i r))
+    extend-held : (r : Reading) → ReadBelow p i r → extendBy plan bytes i can (holding r) ≡ map holding (orElse r (fired p B i r))
     unfolding extendBy
     extend-held r k = ap (orElse (holding r)) (fired-held r k) ∙ map-or-else holding r (fired p B i r)
 
-    pub step-held : isEvent B i ≡ true → stepBy plan bytes i can (p .n) (map holding (filter (λ r. inWindow p B r i) (live p B i))) ≡ map holding (live p B (suc i))
-    unfolding stepBy live step extend only
-    step-held e =
-        let near : List Reading = filter (λ r. inWindow p B r i) (live p B i) in
+    -- those that are left
+    near : List Reading
+    near = filter (λ r. inWindow p B r i) (live p B i)
+
+    old-held : collect (extendBy plan bytes i can) (map holding near) ≡ map holding (collect (extend p B i) (live p B i))
+    unfolding near extend
+    old-held =
         let goes : Reading → List Reading = λ r. orElse r (fired p B i r) in
-        let old : collect (extendBy plan bytes i can (p .n)) (map holding near) ≡ map holding (collect (extend p B i) (live p B i)) =
-        collect-map (extendBy plan bytes i can (p .n)) holding near
-        ∙ collect-same (λ r. extendBy plan bytes i can (p .n) (holding r)) (λ r. map holding (goes r)) near
+        collect-map (extendBy plan bytes i can) holding near
+        ∙ collect-same (λ r. extendBy plan bytes i can (holding r)) (λ r. map holding (goes r)) near
         (λ r m. extend-held r (known i r (live-sound p B i (mem-filter (λ r. inWindow p B r i) (live p B i) m .1))))
         ∙ map-collect holding goes near
-        ∙ ap (map holding) (sym (collect-only (λ r. inWindow p B r i) goes (live p B i))) in
-        let new : firedBy plan bytes i can (p .n) unbound ≡ map holding (fired p B i []) = ap (firedBy plan bytes i can (p .n)) (sym holding-none) ∙ fired-held [] (known-none i) in
-        ap₂ _++_ old new
+        ∙ ap (map holding) (sym (collect-only (λ r. inWindow p B r i) goes (live p B i)))
+
+    new-held : firedBy plan bytes i can unbound ≡ map holding (fired p B i [])
+    new-held = ap (firedBy plan bytes i can) (sym holding-none) ∙ fired-held [] (known-none i)
+
+    pub step-held :
+        isEvent B i ≡ true
+        → stepBy plan bytes i can (map holding (filter (λ r. inWindow p B r i) (live p B i))) ≡ map holding (live p B (suc i))
+    unfolding stepBy live step only near
+    step-held e =
+        ap₂ _++_ old-held new-held
         ∙ sym (map-append holding (collect (extend p B i) (live p B i)) (fired p B i []))
         ∙ ap (λ (t : Bool). map holding (only t (collect (extend p B i) (live p B i) ++ fired p B i []))) (sym e)
 
@@ -168,9 +199,12 @@ module _ (p : Pattern) (o : InOrder p) (plan : List ℕ) (is : IsPlan p plan) (b
         let up = rising (startOf r) (startOf s) (before-start r s b) (omega (arith, length-records bytes)) in
         absurd (let z = sym (ap not (le-leb (timeAt B i) (timeAt B (startOf s) + p .duration) (omega arith))) ∙ e in let q : _≡_ {A = ℕ} 0 1 = cc in omega arith))
 
-    ordered-late : (l : List Reading) → ((r : Reading) → List·Memᴰ r l → Live p B r i) → Ordered Before l → Ordered (λ r s. not (inWindow p B s i) ≡ true → not (inWindow p B r i) ≡ true) l
+    ordered-late :
+        (l : List Reading) → ((r : Reading) → List·Memᴰ r l → Live p B r i) → Ordered Before l
+        → Ordered (λ r s. not (inWindow p B s i) ≡ true → not (inWindow p B r i) ≡ true) l
     ordered-late [] n q = tt
-    ordered-late (r ∷ l) n q = (λ s m. late-before r s (n s (List·Memᴰ·tail m)) (q .0 s m), ordered-late l (λ s m. n s (List·Memᴰ·tail m)) (q .1))
+    ordered-late (r ∷ l) n q =
+        (λ s m. late-before r s (n s (List·Memᴰ·tail m)) (q .0 s m), ordered-late l (λ s m. n s (List·Memᴰ·tail m)) (q .1))
 
     pub live-late : Ordered (λ r s. not (inWindow p B s i) ≡ true → not (inWindow p B r i) ≡ true) (live p B i)
     live-late = ordered-late (live p B i) (λ r m. live-sound p B i m) (live-ordered p B i)

@@ -1,3 +1,4 @@
+pub mod Flags
 pub mod Live
 pub mod Memory
 pub mod Lines

@@ -5,9 +5,8 @@ use mathlib.Core.List.{List, _++_}
 use Prim.Native.Nat.{ℕ, _+_, _*_, _/_, _≤_}
 use lib.Dec.{ltb}
 use lib.ListN.{length}
-use Rattle.numbers.specs.Numbers.{bytesOf}
+use Rattle.numbers.specs.Numbers.{bytesOf, written}
 use Rattle.rule.specs.Rule.{Line, pack}
-use Rattle.slots.specs.Results.{written}
 
 -- the lines reported so far: whether they fit, and then the bytes and lines counted and the bytes written
 pub record Told (lent result : List ℕ) (used readings : ℕ) (short : Bool) (out : List Line) : Type 0 where

@@ -23,6 +23,10 @@ pub record Outside (old new : List ℕ) (low high : ℕ) : Type 0 where
   pub before : take low new ≡ take low old
   pub after : drop high new ≡ drop high old
 
+-- the places from low up to high stand before the room for `limit` readings from dst on, or behind it
+pub record Apart (low high dst limit : ℕ) : Type 0 where
+  pub sides : (high ≤ dst) ⊎ (dst + slotBytes * limit ≤ low)
+
 -- the readings `more` were put out behind any that stood there
 pub record Added (old new : List ℕ) (dst limit t : ℕ) (o : Bool) (t′ : ℕ) (o′ : Bool) (more : List Held) : Type 0 where
   pub total : t′ ≡ t + length more

@@ -5,7 +5,7 @@ use mathlib.Core.List.{List, _++_}
 use Prim.Native.Nat.{ℕ, _-_, _*_, _/_, _≤_}
 use lib.Dec.{ltb}
 use lib.ListN.{length, take, replicate}
-use Rattle.numbers.specs.Numbers.{bytesOf}
+use Rattle.numbers.specs.Numbers.{bytesOf, written}
 use Rattle.records.specs.declared.Answer.{Answer}
 use Rattle.records.specs.Records.{recordCount, recordsOf}
 use Rattle.records.specs.Blocks.{mostRecords}
@@ -14,7 +14,6 @@ use Rattle.patterns.specs.Checked.{InOrder}
 use Rattle.rule.specs.Rule.{Line, TimesNeverFall, pack}
 use Rattle.rule.specs.Lists.{forward}
 use Rattle.rule.specs.Calls.{mostLive, workPerReading}
-use Rattle.slots.specs.Results.{written}
 use Rattle.firing.specs.Plan.{IsPlan}
 
 -- a checked pattern with its plan, and a checked block

@@ -1,9 +1,8 @@
 // The forward pass: one pass over the records, with the live readings in lent working memory.
 ghost use mathlib.Core.Path.{_≡_};
-ghost use mathlib.Core.Logic.{_⊎_};
 ghost use mathlib.Core.Bool.{Bool, true, false, not};
 ghost use mathlib.Core.List.{List, [], _∷_, _++_};
-ghost use Prim.Native.Nat.{ℕ, _+_, _-_, _*_, _≤_, _<_, max};
+ghost use Prim.Native.Nat.{ℕ, _+_, _-_, _*_, _^_, _≤_, _<_, max};
 ghost use lib.ListN.{length, replicate};
 ghost use Rattle.numbers.specs.Numbers.{first};
 ghost use Rattle.records.specs.Records.{recordBytes};
@@ -12,10 +11,11 @@ ghost use Rattle.rule.specs.Rule.{startOf};
 ghost use Rattle.rule.specs.Lists.{line};
 ghost use Rattle.rule.specs.Calls.{ForwardCall};
 ghost use Rattle.slots.specs.Slots.{Held, slotBytes, slotAt, slotsAt, heldIn, countIn, grow};
-ghost use Rattle.firing.specs.Plan.{Sound};
-ghost use Rattle.firing.specs.Firing.{firesBy, Fit};
-ghost use Rattle.forward.specs.Live.{oneBy, firedBy, extendBy, stepBy, isLong, long, isEventBy, markBy, canAt, linesBy, isLate};
-ghost use Rattle.forward.specs.Memory.{Standing, Outside, Added, Ready, Begun, firstInTime, goneBy, Stands, Moved};
+ghost use Rattle.firing.specs.Plan.{Sound, Classed};
+ghost use Rattle.firing.specs.Firing.{Fit};
+ghost use Rattle.forward.specs.Flags.{isSet};
+ghost use Rattle.forward.specs.Live.{oneBy, firedBy, extendBy, firstBy, begunBy, stepBy, isLong, long, isEventBy, markBy, canAt, linesBy, isLate};
+ghost use Rattle.forward.specs.Memory.{Standing, Outside, Apart, Added, Ready, Begun, firstInTime, goneBy, Stands, Moved};
 ghost use Rattle.forward.specs.Lines.{Told, Wrote};
 ghost use Rattle.forward.specs.Passes.{Prepared, Ran, Finished, limitBroken};
 use patterns::Pattern;
@@ -42,14 +42,14 @@ const GAP_MARK: u8 = 3;
 // How many readings were put out, and whether one of them has a 33rd binding.
 pub struct Out {
     pub total: usize,
-    pub over: bool,
+    pub over: usize,
 }
 
 // How many bytes and readings were reported, and whether the result is too short for them.
 pub struct Tell {
     pub used: usize,
     pub readings: usize,
-    pub short: bool,
+    pub short: usize,
 }
 
 // ## Closing
@@ -117,9 +117,9 @@ fn mark_at(block: &[u8], i: usize) -> u8
 // Reports one reading, or notes that the room is short.
 fn tell_one(result: &mut [u8], mark: u8, slot: &[u8], tell: Tell) -> Tell
     requires { ⌜ (length (now slot) ≡ slotBytes) × (countIn (now slot) ≤ 32) × (mark < 16) × (tell .used ≤ length (now result)) × (tell .readings ≤ tell .used) ⌝ }
-    ensures { λ r. ⌜ Wrote (now (result .entry)) (now (result .exit)) (tell .used) (tell .readings) (tell .short) (r .used) (r .readings) (r .short) (line mark (heldIn (now (slot .entry)) .bindings) ∷ []) ⌝ }
+    ensures { λ r. ⌜ Wrote (now (result .entry)) (now (result .exit)) (tell .used) (tell .readings) (isSet (tell .short)) (r .used) (r .readings) (isSet (r .short)) (line mark (heldIn (now (slot .entry)) .bindings) ∷ []) ⌝ }
 {
-    if tell.short {
+    if tell.short != 0 {
         return tell;
     }
     let at = tell.used;
@@ -128,21 +128,21 @@ fn tell_one(result: &mut [u8], mark: u8, slot: &[u8], tell: Tell) -> Tell
         return Tell {
             used: at,
             readings: tell.readings,
-            short: true,
+            short: 1,
         };
     }
     slots::put_line(result, at, mark, slot);
     Tell {
         used: end,
         readings: tell.readings + 1,
-        short: false,
+        short: 0,
     }
 }
 
 // Reports a reading that closes, if it is full.
 fn close_one(result: &mut [u8], full: u64, mark: u8, slot: &[u8], tell: Tell) -> Tell
     requires { ⌜ (length (now slot) ≡ slotBytes) × (countIn (now slot) ≤ 32) × (mark < 16) × (tell .used ≤ length (now result)) × (tell .readings ≤ tell .used) ⌝ }
-    ensures { λ r. ⌜ Wrote (now (result .entry)) (now (result .exit)) (tell .used) (tell .readings) (tell .short) (r .used) (r .readings) (r .short) (linesBy full mark (heldIn (now (slot .entry)) ∷ [])) ⌝ }
+    ensures { λ r. ⌜ Wrote (now (result .entry)) (now (result .exit)) (tell .used) (tell .readings) (isSet (tell .short)) (r .used) (r .readings) (isSet (r .short)) (linesBy full mark (heldIn (now (slot .entry)) ∷ [])) ⌝ }
 {
     if numbers::is_within(full, slots::state_of(slot)) {
         return tell_one(result, mark, slot, tell);
@@ -161,7 +161,7 @@ fn close_all(
     tell: Tell,
 ) -> Tell
     requires { ⌜ (src + slotBytes * count ≤ length (now work)) × (long (slotsAt (now work) src count) ≡ false) × (mark < 16) × (tell .used ≤ length (now result)) × (tell .readings ≤ tell .used) ⌝ }
-    ensures { λ r. ⌜ Wrote (now (result .entry)) (now (result .exit)) (tell .used) (tell .readings) (tell .short) (r .used) (r .readings) (r .short) (linesBy full mark (slotsAt (now (work .entry)) src count)) ⌝ }
+    ensures { λ r. ⌜ Wrote (now (result .entry)) (now (result .exit)) (tell .used) (tell .readings) (isSet (tell .short)) (r .used) (r .readings) (isSet (r .short)) (linesBy full mark (slotsAt (now (work .entry)) src count)) ⌝ }
 {
     let mut told = tell;
     let mut k = 0;
@@ -179,7 +179,7 @@ fn close_all(
 // Puts out one reading that has at most 32 bindings.
 fn emit(work: &mut [u8], slot: &[u8; 80], dst: usize, limit: usize, out: Out) -> Out
     requires { ⌜ (dst + slotBytes * limit ≤ length (now work)) × (length (now slot) ≡ slotBytes) × (isLong (heldIn (now slot)) ≡ false) × (out .total < 65536) ⌝ }
-    ensures { λ r. ⌜ Added (now (work .entry)) (now (work .exit)) dst limit (out .total) (out .over) (r .total) (r .over) (heldIn (now (slot .entry)) ∷ []) ⌝ }
+    ensures { λ r. ⌜ Added (now (work .entry)) (now (work .exit)) dst limit (out .total) (isSet (out .over)) (r .total) (isSet (r .over)) (heldIn (now (slot .entry)) ∷ []) ⌝ }
 {
     let total = out.total;
     if limit <= total {
@@ -197,8 +197,8 @@ fn emit(work: &mut [u8], slot: &[u8; 80], dst: usize, limit: usize, out: Out) ->
     }
 }
 
-// Puts out the slot's reading with variable v bound to record i, or notes a 33rd binding.
-fn emit_grown(
+// Puts out the slot's reading, which has fewer than 32 bindings, with variable v bound to record i.
+fn emit_bound(
     work: &mut [u8],
     slot: &[u8; 80],
     i: usize,
@@ -207,122 +207,194 @@ fn emit_grown(
     limit: usize,
     out: Out,
 ) -> Out
-    requires { ⌜ (dst + slotBytes * limit ≤ length (now work)) × (length (now slot) ≡ slotBytes) × (out .total < 65536) × (v < 12) × (i < 4096) ⌝ }
-    ensures { λ r. ⌜ Added (now (work .entry)) (now (work .exit)) dst limit (out .total) (out .over) (r .total) (r .over) (grow i v (heldIn (now (slot .entry))) ∷ []) ⌝ }
+    requires { ⌜ (dst + slotBytes * limit ≤ length (now work)) × (length (now slot) ≡ slotBytes) × (countIn (now slot) < 32) × (out .total < 65536) × (v < 12) × (i < 4096) ⌝ }
+    ensures { λ r. ⌜ Added (now (work .entry)) (now (work .exit)) dst limit (out .total) (isSet (out .over)) (r .total) (isSet (r .over)) (grow i v (heldIn (now (slot .entry))) ∷ []) ⌝ }
 {
-    if slots::count_of(slot) < MOST_BINDINGS {
-        let more = slots::grown(*slot, i, v);
-        return emit(work, &more, dst, limit, out);
+    let total = out.total;
+    if limit <= total {
+        return Out {
+            total: total + 1,
+            over: out.over,
+        };
     }
+    let at = dst + SLOT_BYTES * total;
+    let end = at + SLOT_BYTES;
+    slots::store(&mut work[at..end], slot);
+    slots::bind(&mut work[at..end], i, v);
     Out {
-        total: out.total + 1,
-        over: true,
+        total: total + 1,
+        over: out.over,
     }
 }
 
-// Puts out the extension by one variable, if it fires.
-fn try_one(
+// Puts out the reading at `from` with variable v bound to record i, or notes a 33rd binding.
+fn emit_grown(
     work: &mut [u8],
-    plan: &[u64; 80],
-    block: &[u8],
+    from: usize,
     i: usize,
-    can: u64,
     v: usize,
-    slot: &[u8; 80],
     dst: usize,
     limit: usize,
     out: Out,
 ) -> Out
-    requires { ⌜ (dst + slotBytes * limit ≤ length (now work)) × (out .total < 65536) × (v < mostVariables) × (i < 4096) × Fit (now plan) (now block) i (now slot) ⌝ }
-    ensures { λ r. ⌜ Added (now (work .entry)) (now (work .exit)) dst limit (out .total) (out .over) (r .total) (r .over) (oneBy (now (plan .entry)) (now (block .entry)) i can v (heldIn (now (slot .entry)))) ⌝ }
+    requires { ⌜ (dst + slotBytes * limit ≤ length (now work)) × (from + slotBytes ≤ length (now work)) × (out .total < 65536) × (v < 12) × (i < 4096) ⌝ }
+    ensures { λ r. ⌜ Added (now (work .entry)) (now (work .exit)) dst limit (out .total) (isSet (out .over)) (r .total) (isSet (r .over)) (grow i v (heldIn (slotAt (now (work .entry)) from)) ∷ []) ⌝ }
 {
-    if firing::fires(plan, block, i, can, v, slot) {
-        return emit_grown(work, slot, i, v, dst, limit, out);
+    let end = from + SLOT_BYTES;
+    if slots::count_of(&work[from..end]) < MOST_BINDINGS {
+        let slot = slots::load(&work[from..end]);
+        return emit_bound(work, &slot, i, v, dst, limit, out);
+    }
+    Out {
+        total: out.total + 1,
+        over: 1,
+    }
+}
+
+// Puts out the extension of the reading at `from` by one variable whose own conditions hold, if it fires.
+fn try_one(
+    work: &mut [u8],
+    plan: &[u64; 97],
+    block: &[u8],
+    i: usize,
+    v: usize,
+    from: usize,
+    dst: usize,
+    limit: usize,
+    out: Out,
+) -> Out
+    requires { ⌜ (dst + slotBytes * limit ≤ length (now work)) × (from + slotBytes ≤ length (now work)) × (out .total < 65536) × (v < mostVariables) × (i < 4096) × Fit (now plan) (now block) i (slotAt (now work) from) ⌝ }
+    ensures { λ r. ⌜ Added (now (work .entry)) (now (work .exit)) dst limit (out .total) (isSet (out .over)) (r .total) (isSet (r .over)) (oneBy (now (plan .entry)) (now (block .entry)) i v (heldIn (slotAt (now (work .entry)) from))) ⌝ }
+{
+    let end = from + SLOT_BYTES;
+    if !firing::leaves(plan, slots::state_of(&work[from..end]), v) {
+        return out;
+    }
+    if firing::agrees(plan, block, i, v, &work[from..end]) {
+        return emit_grown(work, from, i, v, dst, limit, out);
     }
     out
 }
 
-// Puts out the extensions of the slot's reading by each variable below n that fires, the smallest first.
+// Puts out the extensions of the reading at `from` by each variable of `can` that fires, the smallest first.
 fn spread(
     work: &mut [u8],
-    plan: &[u64; 80],
+    plan: &[u64; 97],
     block: &[u8],
     i: usize,
     can: u64,
-    n: usize,
-    slot: &[u8; 80],
+    from: usize,
     dst: usize,
     limit: usize,
     out: Out,
 ) -> Out
-    requires { ⌜ (dst + slotBytes * limit ≤ length (now work)) × (out .total + 12 < 65536) × (n ≤ mostVariables) × (i < 4096) × Fit (now plan) (now block) i (now slot) ⌝ }
-    ensures { λ r. ⌜ Added (now (work .entry)) (now (work .exit)) dst limit (out .total) (out .over) (r .total) (r .over) (firedBy (now (plan .entry)) (now (block .entry)) i can n (heldIn (now (slot .entry)))) ⌝ }
+    requires { ⌜ (dst + slotBytes * limit ≤ length (now work)) × (from + slotBytes ≤ length (now work)) × Apart from (from + slotBytes) dst limit × (out .total + 12 < 65536) × (can < 2 ^ mostVariables) × (i < 4096) × Fit (now plan) (now block) i (slotAt (now work) from) ⌝ }
+    ensures { λ r. ⌜ Added (now (work .entry)) (now (work .exit)) dst limit (out .total) (isSet (out .over)) (r .total) (isSet (r .over)) (firedBy (now (plan .entry)) (now (block .entry)) i can (heldIn (slotAt (now (work .entry)) from))) ⌝ }
 {
     let mut more = out;
-    let mut v = 0;
-    while v < n {
-        more = try_one(work, plan, block, i, can, v, slot, dst, limit, more);
-        v += 1;
+    let mut rest = can;
+    while rest != 0 {
+        let v = numbers::lowest_bit(rest);
+        more = try_one(work, plan, block, i, v, from, dst, limit, more);
+        rest = rest - numbers::weight(v);
     }
     more
 }
 
-// Puts out what a live reading becomes: its extensions, or itself where there are none.
+// Puts out what the live reading at `from` becomes: its extensions, or itself where there are none.
 fn extend_one(
     work: &mut [u8],
-    plan: &[u64; 80],
+    plan: &[u64; 97],
     block: &[u8],
     i: usize,
     can: u64,
-    n: usize,
-    slot: &[u8; 80],
+    from: usize,
     dst: usize,
     limit: usize,
     out: Out,
 ) -> Out
-    requires { ⌜ (dst + slotBytes * limit ≤ length (now work)) × (out .total + 12 < 65536) × (n ≤ mostVariables) × (i < 4096) × Fit (now plan) (now block) i (now slot) ⌝ }
-    ensures { λ r. ⌜ Added (now (work .entry)) (now (work .exit)) dst limit (out .total) (out .over) (r .total) (r .over) (extendBy (now (plan .entry)) (now (block .entry)) i can n (heldIn (now (slot .entry)))) ⌝ }
+    requires { ⌜ (dst + slotBytes * limit ≤ length (now work)) × (from + slotBytes ≤ length (now work)) × Apart from (from + slotBytes) dst limit × (out .total + 12 < 65536) × (can < 2 ^ mostVariables) × (i < 4096) × Fit (now plan) (now block) i (slotAt (now work) from) ⌝ }
+    ensures { λ r. ⌜ Added (now (work .entry)) (now (work .exit)) dst limit (out .total) (isSet (out .over)) (r .total) (isSet (r .over)) (extendBy (now (plan .entry)) (now (block .entry)) i can (heldIn (slotAt (now (work .entry)) from))) ⌝ }
 {
     let total = out.total;
-    let more = spread(work, plan, block, i, can, n, slot, dst, limit, out);
+    let more = spread(work, plan, block, i, can, from, dst, limit, out);
     let now = more.total;
     if total < now {
         return more;
     }
-    emit(work, slot, dst, limit, more)
+    let end = from + SLOT_BYTES;
+    let slot = slots::load(&work[from..end]);
+    emit(work, &slot, dst, limit, more)
+}
+
+// Puts out the reading that begins with one variable whose own conditions hold, if it fires. Nothing is bound, so its state
+// is all that it is asked.
+fn begin_one(
+    work: &mut [u8],
+    plan: &[u64; 97],
+    i: usize,
+    v: usize,
+    dst: usize,
+    limit: usize,
+    out: Out,
+) -> Out
+    requires { ⌜ (dst + slotBytes * limit ≤ length (now work)) × (out .total < 65536) × (v < mostVariables) × (i < 4096) × Sound (now plan) ⌝ }
+    ensures { λ r. ⌜ Added (now (work .entry)) (now (work .exit)) dst limit (out .total) (isSet (out .over)) (r .total) (isSet (r .over)) (firstBy (now (plan .entry)) i v) ⌝ }
+{
+    if firing::leaves(plan, 0, v) {
+        let none = slots::empty_slot();
+        return emit_bound(work, &none, i, v, dst, limit, out);
+    }
+    out
+}
+
+// Puts out the readings that begin with each variable of `can` that fires, the smallest first.
+fn begin(
+    work: &mut [u8],
+    plan: &[u64; 97],
+    i: usize,
+    can: u64,
+    dst: usize,
+    limit: usize,
+    out: Out,
+) -> Out
+    requires { ⌜ (dst + slotBytes * limit ≤ length (now work)) × (out .total + 12 < 65536) × (can < 2 ^ mostVariables) × (i < 4096) × Sound (now plan) ⌝ }
+    ensures { λ r. ⌜ Added (now (work .entry)) (now (work .exit)) dst limit (out .total) (isSet (out .over)) (r .total) (isSet (r .over)) (begunBy (now (plan .entry)) i can) ⌝ }
+{
+    let mut more = out;
+    let mut rest = can;
+    while rest != 0 {
+        let v = numbers::lowest_bit(rest);
+        more = begin_one(work, plan, i, v, dst, limit, more);
+        rest = rest - numbers::weight(v);
+    }
+    more
 }
 
 // The live readings from src on, count of them, are replaced by what they become at event i, then those that begin.
 fn advance(
     work: &mut [u8],
-    plan: &[u64; 80],
+    plan: &[u64; 97],
     block: &[u8],
     i: usize,
     can: u64,
-    n: usize,
     src: usize,
     count: usize,
     dst: usize,
     limit: usize,
 ) -> Out
-    requires { ⌜ (dst + slotBytes * limit ≤ length (now work)) × (src + slotBytes * count ≤ length (now work)) × ((src + slotBytes * count ≤ dst) ⊎ (dst + slotBytes * limit ≤ src)) ⌝ }
-    requires { ⌜ (count ≤ 256) × (n ≤ mostVariables) × (i < 4096) × Sound (now plan) × (recordBytes * i + recordBytes ≤ length (now block)) × Ready (now work) (now plan) (now block) i src count ⌝ }
-    ensures { λ r. ⌜ Added (now (work .entry)) (now (work .exit)) dst limit 0 false (r .total) (r .over) (stepBy (now (plan .entry)) (now (block .entry)) i can n (slotsAt (now (work .entry)) src count)) ⌝ }
+    requires { ⌜ (dst + slotBytes * limit ≤ length (now work)) × (src + slotBytes * count ≤ length (now work)) × Apart src (src + slotBytes * count) dst limit ⌝ }
+    requires { ⌜ (count ≤ 256) × (can < 2 ^ mostVariables) × (i < 4096) × Sound (now plan) × Ready (now work) (now plan) (now block) i src count ⌝ }
+    ensures { λ r. ⌜ Added (now (work .entry)) (now (work .exit)) dst limit 0 false (r .total) (isSet (r .over)) (stepBy (now (plan .entry)) (now (block .entry)) i can (slotsAt (now (work .entry)) src count)) ⌝ }
 {
-    let mut out = Out {
-        total: 0,
-        over: false,
-    };
+    let mut out = Out { total: 0, over: 0 };
     let mut k = 0;
     while k < count {
         let at = src + SLOT_BYTES * k;
-        let end = at + SLOT_BYTES;
-        let slot = slots::load(&work[at..end]);
-        out = extend_one(work, plan, block, i, can, n, &slot, dst, limit, out);
+        out = extend_one(work, plan, block, i, can, at, dst, limit, out);
         k += 1;
     }
-    let none = slots::empty_slot();
-    spread(work, plan, block, i, can, n, &none, dst, limit, out)
+    begin(work, plan, i, can, dst, limit, out)
 }
 
 // Where the live readings stand: the half of working memory, the place of the first, how many; and whether one of them has
@@ -331,23 +403,22 @@ pub struct Stand {
     pub half: usize,
     pub start: usize,
     pub count: usize,
-    pub over: bool,
+    pub over: usize,
 }
 
 // The live readings after record i. Where no variable can fire nothing moves.
 fn move_on(
     work: &mut [u8],
-    plan: &[u64; 80],
+    plan: &[u64; 97],
     block: &[u8],
     i: usize,
     can: u64,
-    n: usize,
     stand: Stand,
     limit: usize,
 ) -> Stand
-    requires { ⌜ Stands (length (now work)) limit (stand .half) (stand .start) (stand .count) × (long (slotsAt (now work) (stand .start) (stand .count)) ≡ false) × (stand .over ≡ false) ⌝ }
-    requires { ⌜ (n ≤ mostVariables) × (i < 4096) × Sound (now plan) × (recordBytes * i + recordBytes ≤ length (now block)) × Ready (now work) (now plan) (now block) i (stand .start) (stand .count) ⌝ }
-    ensures { λ r. ⌜ Moved (now (work .entry)) (now (work .exit)) limit (r .half) (r .start) (r .count) (r .over) (stepBy (now (plan .entry)) (now (block .entry)) i can n (slotsAt (now (work .entry)) (stand .start) (stand .count))) ⌝ }
+    requires { ⌜ Stands (length (now work)) limit (stand .half) (stand .start) (stand .count) × (long (slotsAt (now work) (stand .start) (stand .count)) ≡ false) × (isSet (stand .over) ≡ false) ⌝ }
+    requires { ⌜ (can < 2 ^ mostVariables) × (i < 4096) × Sound (now plan) × Ready (now work) (now plan) (now block) i (stand .start) (stand .count) ⌝ }
+    ensures { λ r. ⌜ Moved (now (work .entry)) (now (work .exit)) limit (r .half) (r .start) (r .count) (isSet (r .over)) (stepBy (now (plan .entry)) (now (block .entry)) i can (slotsAt (now (work .entry)) (stand .start) (stand .count))) ⌝ }
 {
     if can == 0 {
         return stand;
@@ -359,7 +430,6 @@ fn move_on(
         block,
         i,
         can,
-        n,
         stand.start,
         stand.count,
         dst,
@@ -387,9 +457,9 @@ fn without(stand: Stand, gone: usize) -> Stand
 }
 
 // The variables whose own conditions hold of record i, if it is an event.
-fn can_at(plan: &[u64; 80], block: &[u8], i: usize, n: usize, c: usize) -> u64
-    requires { ⌜ Sound (now plan) × (n ≤ mostVariables) × (c ≤ mostConditions) × (recordBytes * i + recordBytes ≤ length (now block)) ⌝ }
-    ensures { λ r. ⌜ r ≡ canAt (now (plan .entry)) n c (now (block .entry)) i ⌝ }
+fn can_at(plan: &[u64; 97], block: &[u8], i: usize, n: usize, c: usize) -> u64
+    requires { ⌜ Sound (now plan) × Classed (now plan) n c × (n ≤ mostVariables) × (c ≤ mostConditions) × (recordBytes * i + recordBytes ≤ length (now block)) ⌝ }
+    ensures { λ r. ⌜ (r ≡ canAt (now (plan .entry)) n c (now (block .entry)) i) × (r < 2 ^ mostVariables) ⌝ }
 {
     if is_event(block, i) {
         return firing::can_fire(plan, n, c, block, i);
@@ -411,7 +481,7 @@ fn most(a: usize, b: usize) -> usize
 // The pass over a checked block: its answer, and what it reports in the result.
 fn pass(
     p: Pattern,
-    plan: &[u64; 80],
+    plan: &[u64; 97],
     block: &[u8],
     limit: usize,
     work: &mut [u8],
@@ -426,12 +496,12 @@ fn pass(
         half: 0,
         start: 0,
         count: 0,
-        over: false,
+        over: 0,
     };
     let mut tell = Tell {
         used: 0,
         readings: 0,
-        short: false,
+        short: 0,
     };
     let mut peak: usize = 0;
     let mut i = 0;
@@ -446,12 +516,12 @@ fn pass(
             mark_at(block, i),
             tell,
         );
-        if tell.short {
+        if tell.short != 0 {
             return records::refusal(11, 0);
         }
         let can = can_at(plan, block, i, p.n, p.c);
-        stand = move_on(work, plan, block, i, can, p.n, without(stand, gone), limit);
-        if stand.over {
+        stand = move_on(work, plan, block, i, can, without(stand, gone), limit);
+        if stand.over != 0 {
             return records::refusal(9, i as u32);
         }
         if limit < stand.count {
@@ -461,7 +531,7 @@ fn pass(
         i += 1;
     }
     tell = close_all(result, work, stand.start, stand.count, full, END_MARK, tell);
-    if tell.short {
+    if tell.short != 0 {
         return records::refusal(11, 0);
     }
     Answer {
@@ -491,9 +561,9 @@ fn finish(answer: Answer, work: &mut [u8], result: &mut [u8]) -> Answer
     requires { ⌜ (answer .code ≡ 0 → 2 * answer .used ≤ length (now result)) ⌝ }
     ensures { λ r. ⌜ (r ≡ answer) × (now (work .exit) ≡ replicate (length (now (work .entry))) 0) × Finished answer (now (result .entry)) (now (result .exit)) ⌝ }
 {
-    slots::clear(work);
+    numbers::clear(work);
     if answer.code != 0 {
-        slots::clear(result);
+        numbers::clear(result);
         return answer;
     }
     slots::clear_from(result, 2 * answer.used as usize);

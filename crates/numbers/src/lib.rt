@@ -54,6 +54,17 @@ pub fn weight(v: usize) -> u64
     1 << v
 }
 
+// The weight of v, if the test passes.
+pub fn weight_if(test: bool, v: usize) -> u64
+    requires { ⌜ v < 64 ⌝ }
+    ensures { λ r. ⌜ r ≡ oneIf test * 2 ^ v ⌝ }
+{
+    if test {
+        return weight(v);
+    }
+    0
+}
+
 pub fn bit_of(number: u64, v: usize) -> bool
     requires { ⌜ v < 64 ⌝ }
     ensures { λ r. ⌜ r ≡ bit number v ⌝ }

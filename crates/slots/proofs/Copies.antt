@@ -34,17 +34,6 @@ copy-end n i from start to f s h e =
     ∙ ap (λ (l : List ℕ). from ++ l) (let k : length start ≤ i = omega arith in drop-of-length-le start k)
     ∙ append-nil from
 
--- a loop that fills from the front, at its end
-pub fill-end :
-    (i value : ℕ) (start bytes : List ℕ) → i ≡ length start → bytes ≡ replicate i value ++ drop i start
-    → bytes ≡ replicate (length start) value
-fill-end i value start bytes h e =
-    let k : length start ≤ i = omega arith in
-    e
-    ∙ ap (λ (l : List ℕ). replicate i value ++ l) (drop-of-length-le start k)
-    ∙ append-nil (replicate i value)
-    ∙ ap (λ (n : ℕ). replicate n value) h
-
 -- the rest of a list filled
 pub fill-rest :
     (at value : ℕ) (bytes rest : List ℕ) → at ≤ length bytes

@@ -1,13 +1,12 @@
--- A slot with one binding more, as `slots::bind` stores it, and the slot of zeros. Assumes nothing.
+-- A slot with one binding more, as `slots::bind` and `slots::grown` store it, and the slot of zeros. Assumes nothing.
 use mathlib.Core.Path.{_≡_, ap, _∙_}
-use mathlib.Core.List.{List, _∷_, _++_, append-nil}
-use Prim.Native.Nat.{ℕ, suc, _+_, _*_, _^_, _/_, _%_, _<_, _≤_}
+use mathlib.Core.List.{List, _∷_}
+use Prim.Native.Nat.{ℕ, suc, _+_, _*_, _^_, _/_, _%_, _<_}
 use native.Mathlib.Numerals.{add-one}
 use native.Mathlib.Omega.{arith}
 use lib.Bits.{bitOr}
-use borrow.Rule.Slice.PartMut.{postOf}
-use lib.ListN.{length, take, getD, set, length-set, drop-of-length-le}
-use lib.Seq.{getD-set-same, getD-set-other, take-all}
+use lib.ListN.{length, getD, set, length-set}
+use lib.Seq.{getD-set-same, getD-set-other}
 use Rattle.numbers.specs.Numbers.{number}
 use Rattle.numbers.proofs.Numbers.{number-2}
 use Rattle.slots.specs.Slots.{slotBytes, bindingOf, bindingsIn, countIn, stateIn, heldIn, grow}
@@ -106,25 +105,3 @@ held-grown slot i v count state size e h r s =
       length-stored slot count state word size e h,
       count-stored slot count state word size e h ∙ ap (λ (k : ℕ). k + 1) e,
     )
-
--- ## A slot lent as a whole
-
-module _ (i v : ℕ) (slot more : List ℕ) (size : length slot ≡ slotBytes) where
-  pub whole-slot : take slotBytes slot ≡ slot
-  whole-slot = take-all slotBytes slot (omega (arith, size))
-
-  -- nothing stands behind it
-  pub grown-whole :
-      (heldIn more ≡ grow i v (heldIn (take slotBytes slot)))
-      × (length more ≡ slotBytes)
-      × (countIn more ≡ countIn (take slotBytes slot) + 1)
-      → (heldIn (more ++ postOf 0 slotBytes slot) ≡ grow i v (heldIn slot))
-      × (length (more ++ postOf 0 slotBytes slot) ≡ slotBytes)
-      × (countIn (more ++ postOf 0 slotBytes slot) ≡ countIn slot + 1)
-  grown-whole e =
-      let few : length slot ≤ slotBytes = omega (arith, size) in
-      let all : more ++ postOf 0 slotBytes slot ≡ more = ap (λ (l : List ℕ). more ++ l) (drop-of-length-le slot few) ∙ append-nil more in (
-        ap heldIn all ∙ e .0 ∙ ap (λ (l : List ℕ). grow i v (heldIn l)) whole-slot,
-        ap length all ∙ e .1,
-        ap countIn all ∙ e .2 ∙ ap (λ (l : List ℕ). countIn l + 1) whole-slot,
-      )

@@ -6,8 +6,8 @@ use native.Mathlib.Omega.{arith}
 use lib.ListN.{length, take, drop, getD, set, length-set, length-take, length-drop}
 use borrow.Rule.Slice.PartMut.{putMid, same-len-mid}
 use Rattle.slots.specs.Slots.{slotBytes, countIn, heldIn}
-use Rattle.numbers.specs.Numbers.{bytesOf}
-use Rattle.slots.specs.Results.{lineNumbers, written}
+use Rattle.numbers.specs.Numbers.{bytesOf, written}
+use Rattle.slots.specs.Results.{lineNumbers}
 use Rattle.slots.proofs.Results.{put-head}
 use Rattle.slots.proofs.Slots.{line-bytes}
 

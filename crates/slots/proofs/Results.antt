@@ -8,8 +8,8 @@ use native.Mathlib.Omega.{arith}
 use lib.ListN.{length, take, drop, getD, set, length-append, length-drop}
 use lib.Seq.{take-at, drop-at, drop-drop, take-take, length-take-le, take-suc-set, drop-set-lt}
 use borrow.Rule.Slice.PartMut.{putMid}
-use Rattle.numbers.specs.Numbers.{bytesOf}
-use Rattle.slots.specs.Results.{numbersOf, written}
+use Rattle.numbers.specs.Numbers.{bytesOf, written}
+use Rattle.slots.specs.Results.{numbersOf}
 
 -- ---- numbers as bytes
 

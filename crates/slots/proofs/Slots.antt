@@ -7,13 +7,13 @@ use native.Mathlib.Nat.{add-zero, add-suc}
 use native.Mathlib.Omega.{arith}
 use lib.ListN.{length, take, drop, getD, length-append, length-drop, List·getD-append}
 use lib.Seq.{take-take, drop-drop, take-nil, drop-append-le, getD-drop, getD-at, take-suc}
-use Rattle.numbers.specs.Numbers.{number}
+use Rattle.numbers.specs.Numbers.{number, written}
 use Rattle.numbers.proofs.Numbers.{number-2}
 use Rattle.numbers.proofs.Cases.{by-order}
 use Rattle.rule.specs.Rule.{packed, packBindings}
 use Rattle.slots.specs.Slots.{Held, slotBytes, bindingOf, bindingsIn, countIn, heldIn, slotAt, slotsAt}
 use Rattle.numbers.specs.Numbers.{bytesOf}
-use Rattle.slots.specs.Results.{lineNumbers, written}
+use Rattle.slots.specs.Results.{lineNumbers}
 use Rattle.slots.proofs.Results.{bytesOf-append, take-written, drop-written, written-part}
 
 -- ---- the bindings of a slot

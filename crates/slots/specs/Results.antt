@@ -8,10 +8,6 @@ use Rattle.rule.specs.Rule.{Reading, packed, packBindings}
 abbrev pub lineNumbers : ℕ → Reading → List ℕ
 lineNumbers mark r = packed mark (length r) ∷ packBindings r
 
--- bytes written over a memory, from a place on
-abbrev pub written : List ℕ → ℕ → List ℕ → List ℕ
-written memory at bytes = take at memory ++ bytes ++ drop (at + length bytes) memory
-
 -- the numbers that bytes stand for
 unfoldable pub numbersOf : List ℕ → List ℕ
 numbersOf [] = []

@@ -107,8 +107,8 @@ pub extern "C" fn spaldep_forward(
     ensures { λ r. ⌜ ForwardHost (now (pattern .entry)) (now (block .entry)) limit (length (now (work .entry))) (length (now (result .entry))) r (now (work .exit)) (now (result .exit)) ⌝ }
 {
     if is_unfit(result.len()) {
-        slots::clear(work);
-        slots::clear(result);
+        numbers::clear(work);
+        numbers::clear(result);
         return pack(unfit_answer(pattern, block));
     }
     pack(forward::forward(pattern, block, limit, work, result))
@@ -119,7 +119,7 @@ pub extern "C" fn spaldep_start_by_start(pattern: &[u8], block: &[u8], result: &
     ensures { λ r. ⌜ StartByStartHost (now (pattern .entry)) (now (block .entry)) (length (now (result .entry))) r (now (result .exit)) ⌝ }
 {
     if is_unfit(result.len()) {
-        slots::clear(result);
+        numbers::clear(result);
         return pack(unfit_answer(pattern, block));
     }
     pack(starts::start_by_start(pattern, block, result))

@@ -2,6 +2,7 @@ pub mod Sinks
 pub mod Readings
 pub mod Windows
 pub mod Turns
+pub mod Masks
 pub mod Skips
 pub mod Starts
 pub mod Ends

@@ -1,7 +1,7 @@
 -- The reading that a slot holds: the plan's tests on the slot are the rule's on the reading, and so are what fires next and
 -- whether the reading is full; a slot grows with its reading. Assumes nothing.
 use mathlib.Core.Path.{_≡_, refl, sym, ap, ap₂, subst, _∙_}
-use mathlib.Core.Bool.{Bool, true, false, _&&_}
+use mathlib.Core.Bool.{true, false}
 use mathlib.Core.List.{List, [], List·Memᴰ, List·Memᴰ·head, List·Memᴰ·tail, List·Memᴰ·not-nil}
 use Prim.Native.Nat.{ℕ, zero, suc, _+_, _-_, _^_, _≤_, _<_}
 use native.Mathlib.Nat.{pow-suc}
@@ -23,7 +23,7 @@ use Rattle.rule.proofs.Sense.{binds-mem}
 use Rattle.rule.proofs.Found.{none-fires, fires-none}
 use Rattle.slots.specs.Slots.{Held, slotBytes, countIn, stateIn, heldIn, holding, grow}
 use Rattle.slots.proofs.Holding.{holding-grow, holding-bit}
-use Rattle.firing.specs.Firing.{canBy, leavesBy, laterBy, joinsBy, firesBy, ReadBelow, Seated, Fit}
+use Rattle.firing.specs.Firing.{canBy, firesBy, ReadBelow, Seated, Fit}
 use Rattle.firing.proofs.FiresBy.{fires-by}
 use Rattle.starts.specs.declared.Start.{Start}
 use Rattle.starts.specs.declared.Fire.{Fire}
@@ -38,6 +38,39 @@ mask-full : (n : ℕ) → mask (λ v. true) n ≡ 2 ^ n - 1
 unfolding mask
 mask-full zero = refl
 mask-full (suc n) = let e = mask-full n in omega (arith, pow-suc 2 n, mask-bound (λ v. true) n)
+
+-- the variables that fire for a reading, by the rule
+holding-firing :
+    (p : Pattern) (plan bytes : List ℕ) (n c : ℕ) → Of p plan bytes n c → (i : ℕ) → i < recordCount bytes
+    → (reading : Reading) → ReadBelow p i reading
+    → firingBy plan bytes n c i (holding reading) ≡ mask (λ v. fires p (recordsOf bytes) reading v i) (p .n)
+unfolding firingBy
+holding-firing p plan bytes n c o i h reading below =
+    ap (mask (λ v. firesBy plan bytes i (canBy plan n c bytes i) v (holding reading))) (o .variables)
+    ∙ mask-same (λ v. firesBy plan bytes i (canBy plan n c bytes i) v (holding reading)) (λ v. fires p (recordsOf bytes) reading v i) (p .n)
+    (λ v l.
+    (λ k. firesBy plan bytes i (canBy plan (o .variables k) (o .conditions k) bytes i) v (holding reading))
+    ∙ fires-by p (o .order) plan (o .made) bytes (o .rising) i h v l reading below)
+
+-- no bindings
+abbrev pub nothing : Held
+nothing = record { state = 0; bindings = [] }
+
+holding-none : nothing ≡ holding []
+unfolding holding binds
+holding-none = λ k. record { state = sym (mask-same (binds []) (λ v. false) mostVariables (λ v l. refl) ∙ mask-empty mostVariables) k; bindings = [] }
+
+pub firing-begins :
+    (p : Pattern) (plan bytes : List ℕ) (n c : ℕ) → Of p plan bytes n c → (i : ℕ) → i < recordCount bytes
+    → firingBy plan bytes n c i nothing ≡ mask (λ v. fires p (recordsOf bytes) [] v i) (p .n)
+firing-begins p plan bytes n c o i h =
+    ap (firingBy plan bytes n c i) holding-none
+    ∙ holding-firing p plan bytes n c o i h []
+    (record {
+      variable = λ b m. absurd (List·Memᴰ·not-nil m);
+      below = λ b m. absurd (List·Memᴰ·not-nil m);
+      latest = λ b m. absurd (List·Memᴰ·not-nil m);
+    })
 
 -- ## A slot as the tests of a plan ask for it
 
@@ -83,16 +116,8 @@ module _ (n j : ℕ) (slot : List ℕ) (r : Reads n j slot) (few : n ≤ mostVar
           latest = r .latest;
         }
 
-    fires-is : (v : ℕ) → v < p .n → firesBy plan bytes i (canBy plan n c bytes i) v (heldIn slot) ≡ fires p (recordsOf bytes) reading v i
-    fires-is v l =
-        (λ k. firesBy plan bytes i (canBy plan (o .variables k) (o .conditions k) bytes i) v (r .held k))
-        ∙ fires-by p (o .order) plan (o .made) bytes (o .rising) i h v l reading read-below
-
     pub firing-is : firingBy plan bytes n c i (heldIn slot) ≡ mask (λ v. fires p (recordsOf bytes) reading v i) (p .n)
-    unfolding firingBy
-    firing-is =
-        ap (mask (λ v. firesBy plan bytes i (canBy plan n c bytes i) v (heldIn slot))) (o .variables)
-        ∙ mask-same (λ v. firesBy plan bytes i (canBy plan n c bytes i) v (heldIn slot)) (λ v. fires p (recordsOf bytes) reading v i) (p .n) fires-is
+    firing-is = ap (firingBy plan bytes n c i) (r .held) ∙ holding-firing p plan bytes n c o i h reading read-below
 
     pub none-firing : firingBy plan bytes n c i (heldIn slot) ≡ 0 → anyFires p (recordsOf bytes) reading i ≡ false
     none-firing z =
@@ -145,16 +170,6 @@ pub firing-bound : (plan bytes : List ℕ) (n c i : ℕ) (h : Held) → firingBy
 unfolding firingBy
 firing-bound plan bytes n c i h = mask-bound (λ v. firesBy plan bytes i (canBy plan n c bytes i) v h) n
 
--- a record that no variable can fire at
-pub firing-none : (plan bytes : List ℕ) (n c i : ℕ) (h : Held) → canBy plan n c bytes i ≡ 0 → firingBy plan bytes n c i h ≡ 0
-unfolding firingBy firesBy
-firing-none plan bytes n c i h e =
-    mask-same (λ v. firesBy plan bytes i (canBy plan n c bytes i) v h) (λ v. false) n
-    (λ v l.
-    ap (λ (t : Bool). t && (leavesBy plan (h .state) v && (laterBy plan bytes i v h && joinsBy plan bytes i v (h .bindings))))
-    (ap (λ (m : ℕ). bit m v) e ∙ bit-zero v))
-    ∙ mask-empty n
-
 -- ## Slots that grow
 
 module _ (slot more : List ℕ) (j v : ℕ) (e : heldIn more ≡ grow j v (heldIn slot)) where
@@ -188,22 +203,14 @@ module _ (slot more : List ℕ) (j v : ℕ) (e : heldIn more ≡ grow j v (heldI
         latest : (b : Binding) → List·Memᴰ b (withBinding (heldIn slot .bindings) v j) → b .at ≤ j
         latest b m = let w = below b m in omega arith
 
-pub empty-reads :
-    (slot : List ℕ) (n j : ℕ) → heldIn slot ≡ record { state = 0; bindings = [] }
-    → length slot ≡ slotBytes
-    → countIn slot ≡ 0
-    → Reads n j slot
-unfolding holding binds
+pub empty-reads : (slot : List ℕ) (n j : ℕ) → heldIn slot ≡ nothing → length slot ≡ slotBytes → countIn slot ≡ 0 → Reads n j slot
 empty-reads slot n j e size count =
     let z : heldIn slot .bindings ≡ [] = ap (λ (x : Held). x .bindings) e in
     record {
       size = size;
       few = omega arith;
-      held = e ∙ empty-holding ∙ ap holding (sym z);
+      held = e ∙ holding-none ∙ ap holding (sym z);
       variable = λ b m. absurd (List·Memᴰ·not-nil (subst (List·Memᴰ b) z m));
       below = λ b m. absurd (List·Memᴰ·not-nil (subst (List·Memᴰ b) z m));
       latest = λ b m. absurd (List·Memᴰ·not-nil (subst (List·Memᴰ b) z m));
     }
-  where
-    empty-holding : _≡_ {A = Held} (record { state = 0; bindings = [] }) (record { state = mask (binds []) mostVariables; bindings = [] })
-    empty-holding = λ i. record { state = sym (mask-same (binds []) (λ v. false) mostVariables (λ v l. refl) ∙ mask-empty mostVariables) i; bindings = [] }

@@ -5,14 +5,14 @@ use Prim.Native.Nat.{ℕ, _+_, _-_, _*_, _≤_, _<_, min}
 use native.Mathlib.Omega.{arith}
 use lib.ListN.{length, take, length-append}
 use borrow.Author.Tests.{le-leb, lt-leb}
-use Rattle.numbers.specs.Numbers.{bytesOf}
+use Rattle.numbers.specs.Numbers.{bytesOf, written}
 use Rattle.rule.specs.Rule.{Reading, pack, packBindings}
 use Rattle.rule.specs.Starts.{Found, linesOf, leastOver}
 use Rattle.rule.specs.Starts.Found.{closed, over}
 use Rattle.rule.proofs.Pack.{length-pack-bindings}
 use Rattle.rule.proofs.Found.{least-none}
 use Rattle.slots.specs.Slots.{countIn, heldIn}
-use Rattle.slots.specs.Results.{lineNumbers, written}
+use Rattle.slots.specs.Results.{lineNumbers}
 use Rattle.slots.proofs.Slots.{length-heldIn}
 use Rattle.slots.proofs.Results.{length-bytesOf, bytesOf-append, take-written-all, length-written}
 use Rattle.starts.specs.declared.Counts.{Counts}

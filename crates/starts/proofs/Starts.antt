@@ -4,20 +4,23 @@ use mathlib.Core.List.{List, []}
 use Prim.Native.Nat.{ℕ, suc, _+_, _-_, _≤_, _<_, _^_}
 use native.Mathlib.Numerals.{add-one}
 use native.Mathlib.Omega.{arith}
-use Rattle.numbers.specs.Bits.{mask}
+use lib.Dec.{eqb}
+use lib.ListN.{length}
+use borrow.Author.Tests.{eqb-true, eqb-false}
+use Rattle.numbers.proofs.Cases.{by-test}
 use Rattle.records.specs.Records.{recordAt, recordCount, recordsOf, eventKind}
 use Rattle.records.proofs.Listed.{length-records}
 use Rattle.patterns.specs.declared.Pattern.{Pattern}
-use Rattle.rule.specs.Rule.{Block, Reading, fires}
+use Rattle.rule.specs.Rule.{Block, fires}
 use Rattle.rule.specs.Starts.{until, markOf, withBinding, skipUntil, startFound, foundFrom, foundAll}
 use Rattle.rule.proofs.Found.{start-event, found-end, found-all, found-first}
 use Rattle.rule.proofs.Found.{start-gap as found-gap}
-use Rattle.slots.specs.Slots.{countIn, heldIn}
+use Rattle.slots.specs.Slots.{slotBytes, countIn, heldIn}
 use Rattle.starts.specs.declared.Start.{Start}
 use Rattle.starts.specs.Sinks.{Sink, emits}
-use Rattle.starts.specs.Skips.{firingBy, Reads, Usable, Firing, Of, Branched, branchOver, StartIs, Started}
+use Rattle.starts.specs.Skips.{firingBy, Usable, Firing, Of, Branched, branchOver, StartIs, Started}
 use Rattle.starts.proofs.Sinks.{emits-append}
-use Rattle.starts.proofs.Readings.{firing-is, firing-bound}
+use Rattle.starts.proofs.Readings.{nothing, firing-begins, firing-bound, empty-reads}
 use Rattle.starts.proofs.Windows.{is-event, is-gap}
 use Rattle.starts.proofs.Turns.{turn-none, mask-turn, low-bits}
 use Rattle.starts.proofs.Skips.{few-bits}
@@ -28,33 +31,34 @@ module _ (plan bytes : List ℕ) (n c duration i : ℕ) (usable : Usable plan by
   started-gap e before =
       record { found = λ p o d. ap (emits before) (sym (found-gap p (recordsOf bytes) i (is-gap bytes i inside e))) }
 
-  module _ (event : recordAt bytes i .kind ≡ eventKind) (slot : List ℕ) (reads : Reads n i slot) (none : heldIn slot .bindings ≡ []) (firing : ℕ) (is : firing ≡ firingBy plan bytes n c i (heldIn slot)) where
+  module _ (firing : ℕ) (is : firing ≡ firingBy plan bytes n c i nothing) where
     -- the readings that begin at record i, by the mask of the variables that fire there
-    start-over : (p : Pattern) → Of p plan bytes n c → startFound p (recordsOf bytes) i ≡ branchOver p (recordsOf bytes) (markOf p (recordsOf bytes) i) (until p (recordsOf bytes) i) i [] firing
-    start-over p o =
+    start-over : recordAt bytes i .kind ≡ eventKind → (p : Pattern) → Of p plan bytes n c → startFound p (recordsOf bytes) i ≡ branchOver p (recordsOf bytes) (markOf p (recordsOf bytes) i) (until p (recordsOf bytes) i) i [] firing
+    start-over event p o =
         start-event p (recordsOf bytes) i (is-event bytes i inside event)
         ∙ mask-turn (λ v. fires p (recordsOf bytes) [] v i)
         (λ w. skipUntil p (recordsOf bytes) (markOf p (recordsOf bytes) i) (until p (recordsOf bytes) i) (suc i) (withBinding [] w i))
         (p .n) firing
-        (is
-        ∙ firing-is n i slot reads (usable .variables) p plan bytes c o i (omega arith) inside
-        ∙ ap (λ (r : Reading). mask (λ v. fires p (recordsOf bytes) r v i) (p .n)) none)
+        (is ∙ firing-begins p plan bytes n c o i inside)
 
     pub started-none : firing ≡ 0 → (before : Sink) → Started plan bytes n c duration i before before
     unfolding emits
     started-none e before =
+        by-test (eqb (recordAt bytes i .kind) eventKind)
+        (λ t.
         record {
           found = λ p o d.
               ap (emits before)
-              (sym (start-over p o
+              (sym (start-over (eqb-true (recordAt bytes i .kind) eventKind t) p o
               ∙ turn-none (λ w. skipUntil p (recordsOf bytes) (markOf p (recordsOf bytes) i) (until p (recordsOf bytes) i) (suc i) (withBinding [] w i)) (p .n) firing e));
-        }
+        })
+        (λ t. started-gap (eqb-false (recordAt bytes i .kind) eventKind t) before)
 
-    module _ (s : Start) (start : StartIs bytes n c duration i s) where
-      pub start-firing : countIn slot ≡ 0 → Firing plan bytes s slot i firing
-      start-firing count =
+    module _ (event : recordAt bytes i .kind ≡ eventKind) (slot : List ℕ) (none : heldIn slot ≡ nothing) (s : Start) (start : StartIs bytes n c duration i s) where
+      pub start-firing : length slot ≡ slotBytes → countIn slot ≡ 0 → Firing plan bytes s slot i firing
+      start-firing size count =
           let after = start .after in
-          let small : firing < 2 ^ n = rw is (firing-bound plan bytes n c i (heldIn slot)) in
+          let small : firing < 2 ^ n = rw is (firing-bound plan bytes n c i nothing) in
           record {
             ready =
                 record {
@@ -62,7 +66,7 @@ module _ (plan bytes : List ℕ) (n c duration i : ℕ) (usable : Usable plan by
                   mark = start .small;
                   block = start .block;
                   within = omega arith;
-                  reads = rw (start .variables) reads;
+                  reads = empty-reads slot (s .n) i none size count;
                 };
             before = after;
             room = omega arith;
@@ -75,8 +79,8 @@ module _ (plan bytes : List ℕ) (n c duration i : ℕ) (usable : Usable plan by
           record {
             found = λ p o d.
                 branched .found p (subst (λ (k : ℕ). Of p plan bytes k (s .c)) (sym (start .variables)) (subst (λ (k : ℕ). Of p plan bytes n k) (sym (start .conditions)) o))
-                ∙ (λ k. emits before (branchOver p (recordsOf bytes) (start .mark p d k) (start .closes p d k) i (none k) firing))
-                ∙ ap (emits before) (sym (start-over p o));
+                ∙ (λ k. emits before (branchOver p (recordsOf bytes) (start .mark p d k) (start .closes p d k) i (none k .bindings) firing))
+                ∙ ap (emits before) (sym (start-over event p o));
           }
 
 -- ## What is left to be done

@@ -5,13 +5,13 @@ use mathlib.Core.List.{List, [], _∷_, _++_}
 use Prim.Native.Nat.{ℕ, _+_, _-_, _*_, _/_, min}
 use lib.Dec.{leb, ltb}
 use lib.ListN.{length, take, replicate}
-use Rattle.numbers.specs.Numbers.{bytesOf}
+use Rattle.numbers.specs.Numbers.{bytesOf, written}
 use Rattle.records.specs.declared.Answer.{Answer}
 use Rattle.records.specs.Blocks.{refused, mostRecords}
 use Rattle.rule.specs.Promises.{mostCounted}
 use Rattle.rule.specs.Starts.{Found}
 use Rattle.rule.specs.Starts.Found.{closed, over}
-use Rattle.slots.specs.Results.{lineNumbers, written}
+use Rattle.slots.specs.Results.{lineNumbers}
 use Rattle.starts.specs.declared.Counts.{Counts}
 
 -- the lent result beside the counts: numbers, readings, and the least record at which a reading would take a 33rd binding

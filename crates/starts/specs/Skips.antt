@@ -1,10 +1,10 @@
 -- What skip and branch ask for and what they do, by the plan and the slot that they are handed. No promise of a public call
 -- names this file.
 use mathlib.Core.Path.{_≡_}
-use mathlib.Core.Bool.{true}
+use mathlib.Core.Bool.{true, _&&_}
 use mathlib.Core.List.{List, List·Memᴰ}
 use Prim.Native.Nat.{ℕ, suc, _+_, _≤_, _<_, _^_}
-use lib.ListN.{length}
+use lib.ListN.{length, getD}
 use Rattle.numbers.specs.Bits.{bit, mask}
 use Rattle.records.specs.Records.{recordAt, recordCount, recordsOf, eventKind}
 use Rattle.records.specs.Blocks.{mostRecords}
@@ -15,8 +15,8 @@ use Rattle.rule.specs.Rule.{Block, Binding, Reading, TimesNeverFall, lastOf}
 use Rattle.rule.specs.Promises.{mostBindings}
 use Rattle.rule.specs.Starts.{Found, until, markOf, withBinding, inTurn, close, skipUntil, startFound, foundAll}
 use Rattle.slots.specs.Slots.{Held, slotBytes, countIn, heldIn, holding}
-use Rattle.firing.specs.Plan.{IsPlan, Sound}
-use Rattle.firing.specs.Firing.{canBy, firesBy}
+use Rattle.firing.specs.Plan.{IsPlan, Sound, Classed}
+use Rattle.firing.specs.Firing.{canBy, leavesBy, agreesBy, firesBy}
 use Rattle.starts.specs.declared.Start.{Start}
 use Rattle.starts.specs.declared.Fire.{Fire}
 use Rattle.starts.specs.Sinks.{Sink, emits}
@@ -26,6 +26,18 @@ use Rattle.starts.specs.Sinks.{Sink, emits}
 -- the variables that fire at record i, of n variables and c conditions
 unfoldable pub firingBy : List ℕ → List ℕ → ℕ → ℕ → ℕ → Held → ℕ
 firingBy plan bytes n c i h = mask (λ v. firesBy plan bytes i (canBy plan n c bytes i) v h) n
+
+-- the same in parts: the variables that leave a state, and those of a mask that agree with a reading's bindings
+unfoldable pub leavingBy : List ℕ → ℕ → ℕ → ℕ
+leavingBy plan n state = mask (leavesBy plan state) n
+
+unfoldable pub agreeingBy : List ℕ → List ℕ → ℕ → ℕ → Held → ℕ
+agreeingBy plan bytes i asked h = mask (λ v. bit asked v && agreesBy plan bytes i v h) mostVariables
+
+-- for each record the variables whose own conditions hold of it
+pub record Cans (plan bytes : List ℕ) (n c : ℕ) (cans : List ℕ) : Type 0 where
+  pub size : length cans ≡ mostRecords
+  pub each : (i : ℕ) → i < recordCount bytes → getD cans i 0 ≡ canBy plan n c bytes i
 
 -- a slot that holds a reading of the first n variables, with its state; its records stand below j, none of them behind the
 -- latest binding's
@@ -40,6 +52,7 @@ pub record Reads (n j : ℕ) (slot : List ℕ) : Type 0 where
 -- a plan, a block and the counts of variables and conditions that go with them
 pub record Usable (plan bytes : List ℕ) (n c : ℕ) : Type 0 where
   pub sound : Sound plan
+  pub classed : Classed plan n c
   pub variables : n ≤ mostVariables
   pub conditions : c ≤ mostConditions
   pub records : recordCount bytes ≤ mostRecords

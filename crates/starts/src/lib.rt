@@ -6,16 +6,18 @@ ghost use lib.ListN.{length, replicate};
 ghost use Rattle.numbers.specs.Numbers.{oneIf};
 ghost use Rattle.numbers.specs.Bits.{within};
 ghost use Rattle.records.specs.Records.{recordBytes, recordCount, recordsOf};
-ghost use Rattle.records.specs.Blocks.{InOrder as BlockInOrder};
+ghost use Rattle.records.specs.Blocks.{InOrder as BlockInOrder, mostRecords};
 ghost use Rattle.patterns.specs.Checked.{InOrder};
+ghost use Rattle.patterns.specs.Patterns.{mostVariables};
 ghost use Rattle.rule.specs.Promises.{mostCounted};
 ghost use Rattle.rule.specs.Starts.{foundAll};
 ghost use Rattle.rule.specs.Starts.Found.{closed, over};
 ghost use Rattle.rule.specs.Calls.{StartByStartCall, MeasureCall};
 ghost use Rattle.slots.specs.Slots.{slotBytes, countIn, stateIn, heldIn};
+ghost use Rattle.firing.specs.Plan.{planRoom};
 ghost use Rattle.firing.specs.Firing.{Fit};
 ghost use Rattle.starts.specs.Sinks.{sinkOf, sum as sumTo, emit, emits, noneYet, answerBy, leftBy, measureBy};
-ghost use Rattle.starts.specs.Skips.{firingBy, Reads, Usable, Ready, Firing, NextBy, Closed, Skipped, Branched, StartIs, Started, AllStarted};
+ghost use Rattle.starts.specs.Skips.{leavingBy, agreeingBy, Cans, Reads, Usable, Ready, Firing, NextBy, Closed, Skipped, Branched, StartIs, Started, AllStarted};
 
 const RECORD_BYTES: usize = 16;
 
@@ -123,41 +125,82 @@ fn note_over(counts: Counts, j: usize) -> Counts
     }
 }
 
-// ## Skip and branch
+// ## Which variables fire
 
-fn weight_if(yes: bool, v: usize) -> u64
-    requires { ⌜ v < 64 ⌝ }
-    ensures { λ r. ⌜ r ≡ oneIf yes * 2 ^ v ⌝ }
+// For each record no variable.
+fn no_cans() -> [u16; 4096]
+    ensures { λ r. ⌜ r ≡ replicate mostRecords 0 ⌝ }
 {
-    if yes { numbers::weight(v) } else { 0 }
+    [0; 4096]
 }
 
-// The variables that fire at record i, for a reading.
-fn firing_at(block: &[u8], plan: &[u64; 80], n: usize, c: usize, i: usize, slot: &[u8]) -> u64
-    requires { ⌜ (n ≤ 12) × (c ≤ 32) × Fit (now plan) (now block) i (now slot) ⌝ }
-    ensures { λ r. ⌜ r ≡ firingBy (now (plan .entry)) (now (block .entry)) n c i (heldIn (now (slot .entry))) ⌝ }
+// For each record the variables that can fire there by its own conditions, settled once a call and not once a reading.
+fn all_can(plan: &[u64; 97], n: usize, c: usize, block: &[u8]) -> [u16; 4096]
+    requires { ⌜ Usable (now plan) (now block) n c ⌝ }
+    ensures { λ r. ⌜ Cans (now (plan .entry)) (now (block .entry)) n c r ⌝ }
 {
-    let can = firing::can_fire(plan, n, c, block, i);
-    if can == 0 {
-        return 0;
+    let mut cans = no_cans();
+    let count = block.len() / RECORD_BYTES;
+    let mut i = 0;
+    while i < count {
+        cans[i] = firing::can_fire(plan, n, c, block, i) as u16;
+        i += 1;
     }
-    let mut firing = 0;
+    cans
+}
+
+// The variables that leave a state.
+fn leaving(plan: &[u64; 97], n: usize, state: u64) -> u64
+    requires { ⌜ (length (now plan) ≡ planRoom) × (n ≤ mostVariables) ⌝ }
+    ensures { λ r. ⌜ r ≡ leavingBy (now (plan .entry)) n state ⌝ }
+{
+    let mut leave = 0;
     let mut v = 0;
     while v < n {
-        firing = firing + weight_if(firing::fires(plan, block, i, can, v, slot), v);
+        leave = leave + numbers::weight_if(firing::leaves(plan, state, v), v);
         v += 1;
+    }
+    leave
+}
+
+// Of the variables asked, which can fire at record i and leave the reading's state, those that fire.
+fn firing_of(block: &[u8], plan: &[u64; 97], i: usize, asked: u64, slot: &[u8]) -> u64
+    requires { ⌜ (asked < 2 ^ mostVariables) × Fit (now plan) (now block) i (now slot) ⌝ }
+    ensures { λ r. ⌜ r ≡ agreeingBy (now (plan .entry)) (now (block .entry)) i asked (heldIn (now (slot .entry))) ⌝ }
+{
+    let mut firing = 0;
+    let mut rest = asked;
+    while rest != 0 {
+        let v = numbers::lowest_bit(rest);
+        firing = firing + numbers::weight_if(firing::agrees(plan, block, i, v, slot), v);
+        rest = numbers::without_bit(rest, v);
     }
     firing
 }
 
+// ## Skip and branch
+
 // Skips to the next record from j on that fires; to the record at which the reading closes, where none does.
-fn next_fire(block: &[u8], plan: &[u64; 80], s: Start, j: usize, slot: &[u8]) -> Fire
-    requires { ⌜ Ready (now plan) (now block) s (now slot) j ⌝ }
+fn next_fire(
+    block: &[u8],
+    plan: &[u64; 97],
+    cans: &[u16; 4096],
+    s: Start,
+    j: usize,
+    slot: &[u8],
+) -> Fire
+    requires { ⌜ (Ready (now plan) (now block) s (now slot) j) × Cans (now plan) (now block) (s .n) (s .c) (now cans) ⌝ }
     ensures { λ f. ⌜ NextBy (now (plan .entry)) (now (block .entry)) s (now (slot .entry)) j f ⌝ }
 {
+    let leave = leaving(plan, s.n, slots::state_of(slot));
     let mut i = j;
     while i < s.until {
-        let firing = firing_at(block, plan, s.n, s.c, i, slot);
+        let asked = cans[i] as u64 & leave;
+        if asked == 0 {
+            i += 1;
+            continue;
+        }
+        let firing = firing_of(block, plan, i, asked, slot);
         if firing != 0 {
             return Fire {
                 at: i,
@@ -175,17 +218,18 @@ fn next_fire(block: &[u8], plan: &[u64; 80], s: Start, j: usize, slot: &[u8]) ->
 // From a reading that is held before record j: on to the next record that fires.
 fn skip(
     block: &[u8],
-    plan: &[u64; 80],
+    plan: &[u64; 97],
+    cans: &[u16; 4096],
     slot: slots::Slot,
     j: usize,
     s: Start,
     result: &mut [u8],
     counts: Counts,
 ) -> Counts
-    requires { ⌜ Ready (now plan) (now block) s (slot .bytes) j ⌝ }
+    requires { ⌜ (Ready (now plan) (now block) s (slot .bytes) j) × Cans (now plan) (now block) (s .n) (s .c) (now cans) ⌝ }
     ensures { λ o. ⌜ Skipped (now (plan .entry)) (now (block .entry)) s (slot .bytes) j (sinkOf (now (result .entry)) counts) (sinkOf (now (result .exit)) o) ⌝ }
 {
-    let fire = next_fire(block, plan, s, j, &slot.bytes);
+    let fire = next_fire(block, plan, cans, s, j, &slot.bytes);
     if fire.at == s.until {
         return close(result, &slot.bytes, s, counts);
     }
@@ -195,6 +239,7 @@ fn skip(
     branch(
         block,
         plan,
+        cans,
         slot,
         fire.at,
         fire.variables,
@@ -207,7 +252,8 @@ fn skip(
 // At record j, each of the firing variables in turn.
 fn branch(
     block: &[u8],
-    plan: &[u64; 80],
+    plan: &[u64; 97],
+    cans: &[u16; 4096],
     slot: slots::Slot,
     j: usize,
     firing: u64,
@@ -215,34 +261,28 @@ fn branch(
     result: &mut [u8],
     counts: Counts,
 ) -> Counts
-    requires { ⌜ Firing (now plan) (now block) s (slot .bytes) j firing ⌝ }
+    requires { ⌜ (Firing (now plan) (now block) s (slot .bytes) j firing) × Cans (now plan) (now block) (s .n) (s .c) (now cans) ⌝ }
     ensures { λ o. ⌜ Branched (now (plan .entry)) (now (block .entry)) s (slot .bytes) j firing (sinkOf (now (result .entry)) counts) (sinkOf (now (result .exit)) o) ⌝ }
 {
-    if firing == 0 {
-        return counts;
+    let mut taken = counts;
+    let mut rest = firing;
+    while rest != 0 {
+        let v = numbers::lowest_bit(rest);
+        let bytes = slot.bytes;
+        let more = slots::grown(bytes, j, v);
+        taken = skip(
+            block,
+            plan,
+            cans,
+            slots::Slot { bytes: more },
+            j + 1,
+            s,
+            result,
+            taken,
+        );
+        rest = numbers::without_bit(rest, v);
     }
-    let v = numbers::lowest_bit(firing);
-    let bytes = slot.bytes;
-    let more = slots::grown(bytes, j, v);
-    let after = skip(
-        block,
-        plan,
-        slots::Slot { bytes: more },
-        j + 1,
-        s,
-        result,
-        counts,
-    );
-    branch(
-        block,
-        plan,
-        slot,
-        j,
-        numbers::without_bit(firing, v),
-        s,
-        result,
-        after,
-    )
+    taken
 }
 
 // ## Starts
@@ -293,10 +333,12 @@ fn start_at(block: &[u8], n: usize, c: usize, duration: u64, i: usize) -> Start
     }
 }
 
-// Record i as the first of a reading.
+// Record i as the first of a reading; a gap is none. The variables of `first` leave the state of no bindings.
 fn one_start(
     block: &[u8],
-    plan: &[u64; 80],
+    plan: &[u64; 97],
+    cans: &[u16; 4096],
+    first: u64,
     n: usize,
     c: usize,
     duration: u64,
@@ -304,21 +346,22 @@ fn one_start(
     result: &mut [u8],
     counts: Counts,
 ) -> Counts
-    requires { ⌜ (Usable (now plan) (now block) n c) × (i < recordCount (now block)) ⌝ }
+    requires { ⌜ (Usable (now plan) (now block) n c) × (i < recordCount (now block)) × (Cans (now plan) (now block) n c (now cans)) × (first ≡ leavingBy (now plan) n 0) ⌝ }
     ensures { λ o. ⌜ Started (now (plan .entry)) (now (block .entry)) n c duration i (sinkOf (now (result .entry)) counts) (sinkOf (now (result .exit)) o) ⌝ }
 {
-    if records::unpack(block, i).kind != 0 {
-        return counts;
-    }
-    let empty = slots::empty_slot();
-    let firing = firing_at(block, plan, n, c, i, &empty);
+    let firing = cans[i] as u64 & first;
     if firing == 0 {
         return counts;
     }
+    if records::unpack(block, i).kind != 0 {
+        return counts;
+    }
     let s = start_at(block, n, c, duration, i);
+    let empty = slots::empty_slot();
     branch(
         block,
         plan,
+        cans,
         slots::Slot { bytes: empty },
         i,
         firing,
@@ -331,7 +374,7 @@ fn one_start(
 // Each record in turn as the first of a reading.
 fn each_start(
     block: &[u8],
-    plan: &[u64; 80],
+    plan: &[u64; 97],
     n: usize,
     c: usize,
     duration: u64,
@@ -345,10 +388,12 @@ fn each_start(
         readings: 0,
         least: MOST_RECORDS,
     };
+    let cans = all_can(plan, n, c, block);
+    let first = leaving(plan, n, 0);
     let count = block.len() / RECORD_BYTES;
     let mut i = 0;
     while i < count {
-        counts = one_start(block, plan, n, c, duration, i, result, counts);
+        counts = one_start(block, plan, &cans, first, n, c, duration, i, result, counts);
         i += 1;
     }
     counts
@@ -369,7 +414,7 @@ fn pass(p: patterns::Pattern, block: &[u8], result: &mut [u8]) -> Counts
 fn refuse(result: &mut [u8], answer: records::Answer) -> records::Answer
     ensures { λ a. ⌜ (a ≡ answer) × (now (result .exit) ≡ replicate (length (now (result .entry))) 0) ⌝ }
 {
-    slots::clear(result);
+    numbers::clear(result);
     answer
 }
 

@@ -21,18 +21,18 @@ use Rattle.firing.proofs.joins_hold.Statement.{statement}
 use Rattle.firing.proofs.joins_hold.Tie as tie
 
 abbrev Inv-loop : tie.InvT-loop
-Inv-loop plan block i v slot rest state count r hold₀ at k x end j₀ hold j =
+Inv-loop plan block i v slot rest state count hold₀ at k x end j₀ hold j =
     (hold ≡ true) × (j ≤ end) × (all (pairMeets block x v (conditionIn plan at)) (bindingsIn slot j) ≡ true)
 
 abbrev μ-loop : tie.MeasureT-loop
-μ-loop plan block i v slot rest state count r hold₀ at k x end j₀ hold j = end - j
+μ-loop plan block i v slot rest state count hold₀ at k x end j₀ hold j = end - j
 
 abbrev Inv-conditions : tie.InvT-conditions
-Inv-conditions plan block i v slot rest₀ state count r hold₀ rest hold =
+Inv-conditions plan block i v slot rest₀ state count hold₀ rest hold =
     (hold ≡ true) × Left plan block i v (bindingsIn slot (countIn slot)) rest
 
 abbrev μ-conditions : tie.MeasureT-conditions
-μ-conditions plan block i v slot rest₀ state count r hold₀ rest hold = rest
+μ-conditions plan block i v slot rest₀ state count hold₀ rest hold = rest
 
 add-rest : tie.Need-add-rest Inv-loop μ-loop Inv-conditions μ-conditions
 add-rest c = omega arith
@@ -55,14 +55,11 @@ state-of-requires c κs = let s = c .before .before .before .before .pre .0 .sea
 count-of-requires : tie.Need-count-of-requires Inv-loop μ-loop Inv-conditions μ-conditions
 count-of-requires c κs = let s = c .before .before .before .before .before .pre .0 .seated .size in omega arith
 
-unpack-requires : tie.Need-unpack-requires Inv-loop μ-loop Inv-conditions μ-conditions
-unpack-requires c κs = c .before .before .before .before .before .before .pre .0 .here
-
 conditions-holds : tie.Need-conditions-holds Inv-loop μ-loop Inv-conditions μ-conditions
 conditions-holds c =
-    let a = c .before .before .before .before .before .before .before .args in
-    let fit = c .before .before .before .before .before .before .before .pre .0 in
-    (refl, left-all (a .plan .now) (a .block .now) (a .i) (a .v) (bindingsIn (a .slot .now) (countIn (a .slot .now))) (fit .sound .joins (a .v) (c .before .before .before .before .before .before .before .pre .1)))
+    let a = c .before .before .before .before .before .before .args in
+    let fit = c .before .before .before .before .before .before .pre .0 in
+    (refl, left-all (a .plan .now) (a .block .now) (a .i) (a .v) (bindingsIn (a .slot .now) (countIn (a .slot .now))) (fit .sound .joins (a .v) (c .before .before .before .before .before .before .pre .1)))
 
 lowest-bit-requires : tie.Need-lowest-bit-requires Inv-loop μ-loop Inv-conditions μ-conditions
 lowest-bit-requires c κs = omega arith
@@ -74,7 +71,7 @@ element-copy-out-unpack-condition :
     tie.Need-element-copy-out-unpack-condition Inv-loop μ-loop Inv-conditions μ-conditions
 element-copy-out-unpack-condition c =
     let s = c .lowest-bit .ensures .small in
-    let size = c .before .before .before .before .before .before .before .before .before .before .pre .0 .sound .size in
+    let size = c .before .before .before .before .before .before .before .before .before .pre .0 .sound .size in
     omega arith
 
 unpack-condition-requires :
@@ -82,19 +79,19 @@ unpack-condition-requires :
 unpack-condition-requires c κs = search needs
 
 new-value-requires : tie.Need-new-value-requires Inv-loop μ-loop Inv-conditions μ-conditions
-new-value-requires c κs = search needs
+new-value-requires c κs = c .before .before .before .before .before .before .before .before .before .before .before .pre .0 .here
 
 tested-requires : tie.Need-tested-requires Inv-loop μ-loop Inv-conditions μ-conditions
 tested-requires c κs =
-    let word = getD (c .before .before .before .before .before .before .before .before .before .before .before .before .before .args .plan .now) (c .before .before .before .lowest-bit .result) 0 in
+    let word = getD (c .before .before .before .before .before .before .before .before .before .before .before .before .args .plan .now) (c .before .before .before .lowest-bit .result) 0 in
     let first = ap (λ (k : Condition). k .variable) (c .before .unpack-condition .ensures) in
     let second = ap (λ (k : Condition). k .variable2) (c .before .unpack-condition .ensures) in
     (omega (arith, condition-variable word), omega (arith, condition-variable2 word))
 
 loop-holds : tie.Need-loop-holds Inv-loop μ-loop Inv-conditions μ-conditions
 loop-holds c =
-    let a = c .before .before .before .before .before .before .before .before .before .before .before .before .before .before .args in
-    let fit = c .before .before .before .before .before .before .before .before .before .before .before .before .before .before .pre .0 in
+    let a = c .before .before .before .before .before .before .before .before .before .before .before .before .before .args in
+    let fit = c .before .before .before .before .before .before .before .before .before .before .before .before .before .pre .0 in
     let l = c .before .before .before .before .before .before .conditions in
     let at = c .before .before .before .before .lowest-bit .result in
     let k = conditionIn (a .plan .now) at in
@@ -103,8 +100,8 @@ loop-holds c =
 
 pair-holds-requires : tie.Need-pair-holds-requires Inv-loop μ-loop Inv-conditions μ-conditions
 pair-holds-requires c κs =
-    let a = c .before .before .before .before .before .before .before .before .before .before .before .before .before .before .before .before .args in
-    let fit = c .before .before .before .before .before .before .before .before .before .before .before .before .before .before .before .before .pre .0 in
+    let a = c .before .before .before .before .before .before .before .before .before .before .before .before .before .before .before .args in
+    let fit = c .before .before .before .before .before .before .before .before .before .before .before .before .before .before .before .pre .0 in
     let l = c .before .before .before .before .before .before .before .before .conditions in
     let at = c .before .before .before .before .before .before .lowest-bit .result in
     let k = conditionIn (a .plan .now) at in
@@ -114,7 +111,7 @@ pair-holds-requires c κs =
     let few = fit .seated .few in
     let operator = ap (λ (q : Condition). q .operator) (c .before .before .before .before .unpack-condition .ensures) in
     let known = fit .sound .operator at (left-below (a .plan .now) (a .block .now) (a .i) (a .v) (bindingsIn (a .slot .now) (countIn (a .slot .now))) (l .rest) (l .inv .1) at bound) in
-    let most = tested-le (a .v) (c .before .before .before .before .unpack-condition .result) (c .before .before .before .before .before .before .before .before .before .before .before .state-of .result) (c .before .before .before .before .before .before .before .before .before .before .count-of .result) in
+    let most = tested-le (a .v) (c .before .before .before .before .unpack-condition .result) (c .before .before .before .before .before .before .before .before .before .before .state-of .result) (c .before .before .before .before .before .before .before .before .before .count-of .result) in
     let some : m .j < countIn (a .slot .now) = omega arith in
     let inside = fit .seated .inBlock (bindingAt (a .slot .now) (m .j)) (binding-among (a .slot .now) (countIn (a .slot .now)) (m .j) some) in
     (omega arith, omega arith, inside)
@@ -127,8 +124,8 @@ loop-less c = omega arith
 
 loop-again : tie.Need-loop-again Inv-loop μ-loop Inv-conditions μ-conditions
 loop-again c =
-    let a = c .before .before .before .before .before .before .before .before .before .before .before .before .before .before .before .before .before .before .args in
-    let fit = c .before .before .before .before .before .before .before .before .before .before .before .before .before .before .before .before .before .before .pre .0 in
+    let a = c .before .before .before .before .before .before .before .before .before .before .before .before .before .before .before .before .before .args in
+    let fit = c .before .before .before .before .before .before .before .before .before .before .before .before .before .before .before .before .before .pre .0 in
     let l = c .before .before .before .before .before .before .before .before .before .before .conditions in
     let at = c .before .before .before .before .before .before .before .before .lowest-bit .result in
     let k = conditionIn (a .plan .now) at in
@@ -153,43 +150,43 @@ conditions-less c =
 
 conditions-again : tie.Need-conditions-again Inv-loop μ-loop Inv-conditions μ-conditions
 conditions-again c =
-    let a = c .before .before .before .before .before .before .before .before .before .before .before .before .before .before .before .before .before .args in
-    let fit = c .before .before .before .before .before .before .before .before .before .before .before .before .before .before .before .before .before .pre .0 in
+    let a = c .before .before .before .before .before .before .before .before .before .before .before .before .before .before .before .before .args in
+    let fit = c .before .before .before .before .before .before .before .before .before .before .before .before .before .before .before .before .pre .0 in
     let l = c .before .before .before .before .before .before .before .before .before .conditions in
     let at = c .before .before .before .before .before .before .before .lowest-bit .result in
     let k = conditionIn (a .plan .now) at in
     let bound = c .before .before .before .before .before .before .before .lowest-bit .ensures .here in
     let x = c .before .before .before .before .new-value .result in
-    let new = value-read (a .v) (c .before .before .before .before .before .unpack-condition .result) k (c .before .before .before .before .before .unpack-condition .ensures) x (c .before .before .before .before .before .before .before .before .before .before .unpack .result) (recordAt (a .block .now) (a .i)) (c .before .before .before .before .before .before .before .before .before .before .unpack .ensures) (c .before .before .before .before .new-value .ensures) in
+    let new = value-read (a .v) (c .before .before .before .before .before .unpack-condition .result) k (c .before .before .before .before .before .unpack-condition .ensures) x (recordAt (a .block .now) (a .i)) (c .before .before .before .before .new-value .ensures) in
     let m = c .before .before .loop in
-    let end = end-read (a .v) (c .before .before .before .before .before .unpack-condition .result) k (c .before .before .before .before .before .unpack-condition .ensures) (c .before .before .before .before .before .before .before .before .before .before .before .before .state-of .result) (c .before .before .before .before .before .before .before .before .before .before .before .count-of .result) (c .before .before .before .tested .result) (stateIn (a .slot .now)) (countIn (a .slot .now)) (c .before .before .before .before .before .before .before .before .before .before .before .before .state-of .ensures) (c .before .before .before .before .before .before .before .before .before .before .before .count-of .ensures) (c .before .before .before .tested .ensures) in
+    let end = end-read (a .v) (c .before .before .before .before .before .unpack-condition .result) k (c .before .before .before .before .before .unpack-condition .ensures) (c .before .before .before .before .before .before .before .before .before .before .before .state-of .result) (c .before .before .before .before .before .before .before .before .before .before .count-of .result) (c .before .before .before .tested .result) (stateIn (a .slot .now)) (countIn (a .slot .now)) (c .before .before .before .before .before .before .before .before .before .before .before .state-of .ensures) (c .before .before .before .before .before .before .before .before .before .before .count-of .ensures) (c .before .before .before .tested .ensures) in
     let whole : m .j ≡ c .before .before .before .tested .result = omega arith in
-    let every = tried-all (a .block .now) (a .slot .now) (a .v) x k (a .i) (fit .sound .form (a .v) at (c .before .before .before .before .before .before .before .before .before .before .before .before .before .before .before .before .before .pre .1) (l .inv .1 .named at bound)) new (fit .seated) (m .j) (whole ∙ end) (m .inv .2) in
+    let every = tried-all (a .block .now) (a .slot .now) (a .v) x k (a .i) (fit .sound .form (a .v) at (c .before .before .before .before .before .before .before .before .before .before .before .before .before .before .before .before .pre .1) (l .inv .1 .named at bound)) new (fit .seated) (m .j) (whole ∙ end) (m .inv .2) in
     let r = bindingsIn (a .slot .now) (countIn (a .slot .now)) in
     (m .inv .0, subst (λ (w : ℕ). Left (a .plan .now) (a .block .now) (a .i) (a .v) r (l .rest - w)) (sym (c .weight .ensures)) (left-less (a .plan .now) (a .block .now) (a .i) (a .v) r (l .rest) (l .inv .1) at bound every))
 
 returns-2 : tie.Need-returns-2 Inv-loop μ-loop Inv-conditions μ-conditions
 returns-2 c =
-    let a = c .before .before .before .before .before .before .before .before .before .args in
-    let fit = c .before .before .before .before .before .before .before .before .before .pre .0 in
+    let a = c .before .before .before .before .before .before .before .before .args in
+    let fit = c .before .before .before .before .before .before .before .before .pre .0 in
     let l = c .before .conditions in
     l .inv .0 ∙ sym (joins-done (a .plan .now) (a .block .now) (a .i) (a .v) (bindingsIn (a .slot .now) (countIn (a .slot .now))) (l .rest) (l .inv .1) (c .conditions-test .left))
 
 returns-3 : tie.Need-returns-3 Inv-loop μ-loop Inv-conditions μ-conditions
 returns-3 c =
-    let a = c .before .before .before .before .before .before .before .before .before .before .before .before .before .before .before .before .before .before .args in
-    let fit = c .before .before .before .before .before .before .before .before .before .before .before .before .before .before .before .before .before .before .pre .0 in
+    let a = c .before .before .before .before .before .before .before .before .before .before .before .before .before .before .before .before .before .args in
+    let fit = c .before .before .before .before .before .before .before .before .before .before .before .before .before .before .before .before .before .pre .0 in
     let l = c .before .before .before .before .before .before .before .before .before .before .conditions in
     let at = c .before .before .before .before .before .before .before .before .lowest-bit .result in
     let k = conditionIn (a .plan .now) at in
     let bound = c .before .before .before .before .before .before .before .before .lowest-bit .ensures .here in
     let x = c .before .before .before .before .before .new-value .result in
-    let new = value-read (a .v) (c .before .before .before .before .before .before .unpack-condition .result) k (c .before .before .before .before .before .before .unpack-condition .ensures) x (c .before .before .before .before .before .before .before .before .before .before .before .unpack .result) (recordAt (a .block .now) (a .i)) (c .before .before .before .before .before .before .before .before .before .before .before .unpack .ensures) (c .before .before .before .before .before .new-value .ensures) in
+    let new = value-read (a .v) (c .before .before .before .before .before .before .unpack-condition .result) k (c .before .before .before .before .before .before .unpack-condition .ensures) x (recordAt (a .block .now) (a .i)) (c .before .before .before .before .before .new-value .ensures) in
     let m = c .before .before .before .loop in
-    let most = tested-le (a .v) (c .before .before .before .before .before .before .unpack-condition .result) (c .before .before .before .before .before .before .before .before .before .before .before .before .before .state-of .result) (c .before .before .before .before .before .before .before .before .before .before .before .before .count-of .result) in
+    let most = tested-le (a .v) (c .before .before .before .before .before .before .unpack-condition .result) (c .before .before .before .before .before .before .before .before .before .before .before .before .state-of .result) (c .before .before .before .before .before .before .before .before .before .before .before .count-of .result) in
     let some : m .j < countIn (a .slot .now) = omega arith in
     let one = meets-read (a .v) (c .before .before .before .before .before .before .unpack-condition .result) k (c .before .before .before .before .before .before .unpack-condition .ensures) (a .block .now) x (bindingAt (a .slot .now) (m .j)) (c .before .pair-holds .result) false (c .before .pair-holds .ensures) (not-true (c .before .pair-holds .result) (c .if2 .taken)) in
-    let failed = tried-fails (a .block .now) (a .slot .now) (a .v) x k (a .i) (fit .sound .form (a .v) at (c .before .before .before .before .before .before .before .before .before .before .before .before .before .before .before .before .before .before .pre .1) (l .inv .1 .named at bound)) new (fit .seated) (m .j) some one in
+    let failed = tried-fails (a .block .now) (a .slot .now) (a .v) x k (a .i) (fit .sound .form (a .v) at (c .before .before .before .before .before .before .before .before .before .before .before .before .before .before .before .before .before .pre .1) (l .inv .1 .named at bound)) new (fit .seated) (m .j) some one in
     sym (joins-fail (a .plan .now) (a .block .now) (a .i) (a .v) (bindingsIn (a .slot .now) (countIn (a .slot .now))) (l .rest) (l .inv .1) at bound failed)
 
 pub joins-hold-spec : {M : Type 1} → statement M
@@ -206,7 +203,6 @@ joins-hold-spec =
     returns
     state-of-requires
     count-of-requires
-    unpack-requires
     conditions-holds
     lowest-bit-requires
     mul-unpack-condition

@@ -2,7 +2,7 @@
 use mathlib.Core.Path.{_≡_, _∙_, sym}
 use Prim.Native.Nat.{_<_, _≤_}
 use native.Mathlib.Omega.{arith}
-use Rattle.firing.proofs.Plans.{place-word, place-none, place-mask, place-joins}
+use Rattle.firing.proofs.Plans.{place-word, place-none, place-mask, place-joins, place-class, place-others}
 use borrow.Author.Needs.{needs}
 use Rattle.firing.proofs.place.Statement.{statement}
 use Rattle.firing.proofs.place.Tie as tie
@@ -34,9 +34,27 @@ join-mask-requires c κs = search needs
 
 returns-4 : tie.Need-returns-4
 returns-4 c =
-    let a = c .before .before .before .args in
-    let few = c .before .before .before .pre .0 .fewConditions in
-    record { is = c .join-mask .ensures ∙ sym (place-joins (a .p) (a .at) (omega arith)); back = λ h. absurd (omega arith) }
+    let a = c .before .before .before .before .args in
+    let few = c .before .before .before .before .pre .0 .fewConditions in
+    record { is = c .join-mask .ensures ∙ sym (place-joins (a .p) (a .at) (omega arith) (omega arith)); back = λ h. absurd (omega arith) }
+
+class-mask-requires : tie.Need-class-mask-requires
+class-mask-requires c κs = search needs
+
+returns-5 : tie.Need-returns-5
+returns-5 c =
+    let a = c .before .before .before .before .before .args in
+    let few = c .before .before .before .before .before .pre .0 .fewConditions in
+    record { is = c .class-mask .ensures ∙ sym (place-class (a .p) (a .at) (omega arith) (omega arith)); back = λ h. absurd (omega arith) }
+
+other-mask-requires : tie.Need-other-mask-requires
+other-mask-requires c κs = search needs
+
+returns-6 : tie.Need-returns-6
+returns-6 c =
+    let a = c .before .before .before .before .before .args in
+    let few = c .before .before .before .before .before .pre .0 .fewConditions in
+    record { is = c .other-mask .ensures ∙ sym (place-others (a .p) (a .at) (omega arith)); back = λ h. absurd (omega arith) }
 
 pub place-spec : {M : Type 1} → statement M
 place-spec =
@@ -48,4 +66,8 @@ place-spec =
     variable-mask-requires
     returns-3
     join-mask-requires
-    returns-4)
+    returns-4
+    class-mask-requires
+    returns-5
+    other-mask-requires
+    returns-6)

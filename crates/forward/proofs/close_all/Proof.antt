@@ -3,6 +3,7 @@ use mathlib.Core.Path.{_≡_}
 use Prim.Native.Nat.{_+_, _-_, _*_, _≤_}
 use native.Mathlib.Omega.{arith}
 use Rattle.slots.specs.Slots.{slotBytes, slotAt, slotsAt}
+use Rattle.forward.specs.Flags.{isSet}
 use Rattle.forward.specs.Live.{linesBy}
 use Rattle.forward.specs.Lines.{Wrote}
 use Rattle.forward.proofs.Longs.{slots-short, short-count}
@@ -12,7 +13,7 @@ use Rattle.forward.proofs.close_all.Statement.{statement}
 use Rattle.forward.proofs.close_all.Tie as tie
 
 abbrev Inv-loop : tie.InvT-loop
-Inv-loop result₀ work src count full mark told₀ k₀ result told k = (k ≤ count) × Wrote result₀ result (told₀ .used) (told₀ .readings) (told₀ .short) (told .used) (told .readings) (told .short) (linesBy full mark (slotsAt work src k))
+Inv-loop result₀ work src count full mark told₀ k₀ result told k = (k ≤ count) × Wrote result₀ result (told₀ .used) (told₀ .readings) (isSet (told₀ .short)) (told .used) (told .readings) (isSet (told .short)) (linesBy full mark (slotsAt work src k))
 
 abbrev μ-loop : tie.MeasureT-loop
 μ-loop result₀ work src count full mark told₀ k₀ result told k = count - k
@@ -21,7 +22,7 @@ loop-holds : tie.Need-loop-holds Inv-loop μ-loop
 loop-holds c =
     let s = c .before .before in
     let a = s .args in
-    (omega arith, wrote-start (a .result .now) (a .work .now) (a .tell .used) (a .tell .readings) (a .tell .short) (a .full) (a .mark) (a .src) (s .pre .3) (s .pre .4))
+    (omega arith, wrote-start (a .result .now) (a .work .now) (a .tell .used) (a .tell .readings) (isSet (a .tell .short)) (a .full) (a .mark) (a .src) (s .pre .3) (s .pre .4))
 
 mul-at : tie.Need-mul-at Inv-loop μ-loop
 mul-at c = omega arith

@@ -1,5 +1,6 @@
 -- `forward::close_one` meets its contract: a line for a full reading, none for another. Assumes nothing.
 use mathlib.Core.Path.{sym, _∙_}
+use Rattle.forward.specs.Flags.{isSet}
 use Rattle.forward.proofs.Lines.{wrote-full, wrote-part}
 use borrow.Author.Needs.{needs}
 use Rattle.forward.proofs.close_one.Statement.{statement}
@@ -29,7 +30,7 @@ returns-2 c =
     let w = c .before in
     let s = w .before .before .before .before in
     let a = s .args in
-    wrote-part (a .result .now) (a .tell .used) (a .tell .readings) (a .tell .short) (a .full) (a .mark) (a .slot .now) (w .before .state-of .result) (w .before .state-of .ensures) (sym (w .is-within .ensures) ∙ c .if1 .left) (s .pre .3) (s .pre .4)
+    wrote-part (a .result .now) (a .tell .used) (a .tell .readings) (isSet (a .tell .short)) (a .full) (a .mark) (a .slot .now) (w .before .state-of .result) (w .before .state-of .ensures) (sym (w .is-within .ensures) ∙ c .if1 .left) (s .pre .3) (s .pre .4)
 
 pub close-one-spec : {M : Type 1} → statement M
 close-one-spec =

@@ -1,6 +1,5 @@
 -- `forward::emit` meets its contract: one reading more in the next slot, or only counted. Assumes nothing.
 use native.Mathlib.Omega.{arith}
-use Rattle.slots.specs.Slots.{heldIn}
 use Rattle.forward.proofs.Memory.{added-over, added-put}
 use borrow.Author.Needs.{needs}
 use Rattle.forward.proofs.emit.Statement.{statement}
@@ -13,7 +12,7 @@ returns : tie.Need-returns
 returns c =
     let s = c .before .before in
     let a = s .args in
-    added-over (a .work .now) (heldIn (a .slot .now)) (a .dst) (a .limit) (a .out .total) (a .out .over) (c .if1 .taken) (s .pre .2)
+    added-over (c .if1 .taken) (s .pre .2)
 
 mul-at : tie.Need-mul-at
 mul-at c = search needs
@@ -47,7 +46,7 @@ returns-2 c =
     let t = c .before .before in
     let s = t .before .before .before .before in
     let a = s .args in
-    rw (t .store .ensures) (added-put (a .work .now) (a .slot .now) (a .dst) (a .limit) (a .out .total) (a .out .over) (omega arith) (s .pre .0) (s .pre .1) (s .pre .2))
+    rw (t .store .ensures) (added-put (a .slot .now) (omega arith) (s .pre .0) (s .pre .1) (s .pre .2))
 
 pub emit-spec : {M : Type 1} → statement M
 emit-spec =

@@ -9,7 +9,7 @@ returns : tie.Need-returns
 returns c =
     let s = c .before .before .before in
     let a = s .args in
-    moved-idle (a .work .now) (a .plan .now) (a .block .now) (a .i) (a .can) (a .n) (a .limit) (a .stand .half) (a .stand .start) (a .stand .count) (a .stand .over) (c .if1 .taken) (s .pre .0 .0) (s .pre .0 .1) (s .pre .0 .2)
+    moved-idle (a .plan .now) (a .block .now) (a .i) (c .if1 .taken) (s .pre .0 .0) (s .pre .0 .1) (s .pre .0 .2)
 
 mul-dst : tie.Need-mul-dst
 mul-dst c = search needs
@@ -23,7 +23,7 @@ advance-requires c κs =
     let stands = s .pre .0 .0 in
     let few = stands .few in (
       (other-in stands, start-in stands, halves-apart stands),
-      (omega (arith, few-stand stands), s .pre .1 .0, s .pre .1 .1, s .pre .1 .2, s .pre .1 .3, s .pre .1 .4),
+      (omega (arith, few-stand stands), s .pre .1 .0, s .pre .1 .1, s .pre .1 .2, s .pre .1 .3),
     )
 
 same-length : tie.Need-same-length

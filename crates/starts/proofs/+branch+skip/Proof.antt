@@ -1,10 +1,12 @@
--- `starts::skip` and `starts::branch` meet their contracts, which call each other: records left and variables left fall.
--- Assumes nothing.
+-- `starts::skip` and `starts::branch` meet their contracts, which call each other: records left fall from call to call, and
+-- variables left from turn to turn of branch's loop. Assumes nothing.
 use borrow.Author.Needs.{needs}
 use native.Mathlib.Omega.{arith}
 use Prim.Native.Nat.{ℕ, _<_, _+_, _-_, _*_}
-use mathlib.Core.Path.{_∙_}
-use Rattle.starts.specs.Sinks.{sinkOf}
+use mathlib.Core.Path.{_≡_, refl, _∙_}
+use lib.ListN.{length}
+use Rattle.starts.specs.Sinks.{Sink, sinkOf}
+use Rattle.starts.specs.Skips.{Firing, Branched}
 use Rattle.starts.proofs.Turns.{rest-less}
 use Rattle.starts.proofs.Skips.{reads-later, branch-done, lowest-known, grown-ready, branch-takes, rest-firing, skip-closes, skip-notes, next-firing, skip-branches}
 use borrow.Fn.Kinds.{In}
@@ -25,24 +27,24 @@ use Rattle.starts.proofs.note_over.Reads as note-over-reads
 use Rattle.starts.proofs.+branch+skip.{statement}
 use Rattle.starts.proofs.+branch+skip.Tie.{close}
 
--- a mask of variables is below 4,096
-abbrev μ-branch : Measures 3 branch-kinds.ps ℕ
-μ-branch κs a = (a .1 .1 .1 .1 .1 .0 .until - a .1 .1 .1 .0) * 8192 + a .1 .1 .1 .1 .0
+-- skip goes on to branch at its own record or a later one, branch to skip at the next record
+abbrev μ-branch : Measures 4 branch-kinds.ps ℕ
+μ-branch κs a = (a .1 .1 .1 .1 .1 .1 .0 .until - a .1 .1 .1 .1 .0) * 2
 
-abbrev μ-skip : Measures 3 skip-kinds.ps ℕ
-μ-skip κs a = (a .1 .1 .1 .1 .0 .until - a .1 .1 .1 .0) * 8192 + 4096
+abbrev μ-skip : Measures 4 skip-kinds.ps ℕ
+μ-skip κs a = (a .1 .1 .1 .1 .1 .0 .until - a .1 .1 .1 .1 .0) * 2 + 1
 
-abbrev branch-at : ℕ → In 3 branch-kinds.ps
-branch-at t = and 3 branch-kinds.ps (is 3 branch-kinds.ps μ-branch t) branch.Pre
+abbrev branch-at : ℕ → In 4 branch-kinds.ps
+branch-at t = and 4 branch-kinds.ps (is 4 branch-kinds.ps μ-branch t) branch.Pre
 
-abbrev branch-below : ℕ → In 3 branch-kinds.ps
-branch-below t = and 3 branch-kinds.ps (falls 3 branch-kinds.ps _<_ μ-branch t) branch.Pre
+abbrev branch-below : ℕ → In 4 branch-kinds.ps
+branch-below t = and 4 branch-kinds.ps (falls 4 branch-kinds.ps _<_ μ-branch t) branch.Pre
 
-abbrev skip-at : ℕ → In 3 skip-kinds.ps
-skip-at t = and 3 skip-kinds.ps (is 3 skip-kinds.ps μ-skip t) skip.Pre
+abbrev skip-at : ℕ → In 4 skip-kinds.ps
+skip-at t = and 4 skip-kinds.ps (is 4 skip-kinds.ps μ-skip t) skip.Pre
 
-abbrev skip-below : ℕ → In 3 skip-kinds.ps
-skip-below t = and 3 skip-kinds.ps (falls 3 skip-kinds.ps _<_ μ-skip t) skip.Pre
+abbrev skip-below : ℕ → In 4 skip-kinds.ps
+skip-below t = and 4 skip-kinds.ps (falls 4 skip-kinds.ps _<_ μ-skip t) skip.Pre
 
 -- the callees' readings, at what is below t
 abbrev of-branch : ℕ → branch-lts.Claims
@@ -55,8 +57,6 @@ of-branch t = (
   skip.Post,
   without-bit-reads.Asked,
   without-bit-reads.Learnt,
-  branch-below t,
-  branch.Post,
 )
 
 abbrev of-skip : ℕ → skip-lts.Claims
@@ -73,81 +73,92 @@ of-skip t = (
   branch.Post,
 )
 
-branch-returns : (t : ℕ) → branch-lts.Need-returns (of-branch t) (branch-at t) branch.Post
-branch-returns t c =
-    let a = c .before .before .before .args in
-    branch-done (a .plan .now) (a .block .now) (a .s) (a .slot .bytes) (a .j) (a .firing) (sinkOf (a .result .now) (a .counts)) (c .if1 .taken)
+abbrev branch-Inv-loop : branch-lts.InvT-loop
+branch-Inv-loop block plan cans slot j firing s result₀ taken₀ rest₀ result taken rest = (length result ≡ length result₀) × Firing plan block s (slot .bytes) j rest × ((after : Sink) → Branched plan block s (slot .bytes) j rest (sinkOf result taken) after → Branched plan block s (slot .bytes) j firing (sinkOf result₀ taken₀) after)
 
-branch-lowest-bit-requires : (t : ℕ) → branch-lts.Need-lowest-bit-requires (of-branch t) (branch-at t) branch.Post
+abbrev branch-μ-loop : branch-lts.MeasureT-loop
+branch-μ-loop block plan cans slot j firing s result₀ taken₀ rest₀ result taken rest = rest
+
+branch-loop-holds : (t : ℕ) → branch-lts.Need-loop-holds (of-branch t) (branch-at t) branch.Post branch-Inv-loop branch-μ-loop
+branch-loop-holds t c = (refl, c .before .before .pre .1 .0, λ after b. b)
+
+branch-lowest-bit-requires : (t : ℕ) → branch-lts.Need-lowest-bit-requires (of-branch t) (branch-at t) branch.Post branch-Inv-loop branch-μ-loop
 branch-lowest-bit-requires t c κs = search needs
 
-branch-grown-requires : (t : ℕ) → branch-lts.Need-grown-requires (of-branch t) (branch-at t) branch.Post
+branch-grown-requires : (t : ℕ) → branch-lts.Need-grown-requires (of-branch t) (branch-at t) branch.Post branch-Inv-loop branch-μ-loop
 branch-grown-requires t c κs =
-    let st = c .before .before .before .before .before in
-    let a = st .args in
-    let at = st .pre .1 in
+    let a = c .before .before .before .before .before .before .args in
+    let h = c .before .before .before .loop in
+    let at = h .inv .1 in
     let low = c .before .lowest-bit in
-    let known = lowest-known (a .plan .now) (a .block .now) (a .s) (a .slot .bytes) (a .j) (a .firing) (low .result) at (low .ensures) in
+    let known = lowest-known (a .plan .now) (a .block .now) (a .s) (a .slot .bytes) (a .j) (h .rest) (low .result) at (low .ensures) in
     let few = at .ready .usable .variables in
     let end = at .before in
     let block = at .ready .block in
     let records = at .ready .usable .records in
     (at .ready .reads .size, at .room, omega arith, omega arith)
 
-branch-add-skip : (t : ℕ) → branch-lts.Need-add-skip (of-branch t) (branch-at t) branch.Post
+branch-add-skip : (t : ℕ) → branch-lts.Need-add-skip (of-branch t) (branch-at t) branch.Post branch-Inv-loop branch-μ-loop
 branch-add-skip t c =
-    let at = c .before .before .before .before .before .before .pre .1 in
+    let at = c .before .before .before .before .before .before .before .pre .1 .0 in
     let end = at .before in
     let block = at .ready .block in
     let records = at .ready .usable .records in
     omega arith
 
-branch-skip-requires : (t : ℕ) → branch-lts.Need-skip-requires (of-branch t) (branch-at t) branch.Post
+branch-skip-requires : (t : ℕ) → branch-lts.Need-skip-requires (of-branch t) (branch-at t) branch.Post branch-Inv-loop branch-μ-loop
 branch-skip-requires t c κs =
-    let st = c .before .before .before .before .before .before .before in
+    let st = c .before .before .before .before .before .before .before .before in
     let a = st .args in
-    let at = st .pre .1 in
+    let h = c .before .before .before .before .before .loop in
+    let at = h .inv .1 in
     let low = c .before .before .before .lowest-bit in
     let more = c .before .grown in
     let end = at .before in
     let same = st .pre .0 in (
       omega arith,
-      grown-ready (a .plan .now) (a .block .now) (a .s) (a .slot .bytes) (a .j) (a .firing) (low .result) at (low .ensures) (more .result) (more .ensures .0) (more .ensures .1) (more .ensures .2),
+      (grown-ready (a .plan .now) (a .block .now) (a .s) (a .slot .bytes) (a .j) (h .rest) (low .result) at (low .ensures) (more .result) (more .ensures .0) (more .ensures .1) (more .ensures .2), st .pre .1 .1),
     )
 
-branch-without-bit-requires : (t : ℕ) → branch-lts.Need-without-bit-requires (of-branch t) (branch-at t) branch.Post
+branch-without-bit-requires : (t : ℕ) → branch-lts.Need-without-bit-requires (of-branch t) (branch-at t) branch.Post branch-Inv-loop branch-μ-loop
 branch-without-bit-requires t c κs = c .before .before .before .before .before .before .lowest-bit .ensures .small
 
-branch-branch-requires : (t : ℕ) → branch-lts.Need-branch-requires (of-branch t) (branch-at t) branch.Post
-branch-branch-requires t c κs =
-    let st = c .before .before .before .before .before .before .before .before .before .before .before .before in
-    let a = st .args in
-    let at = st .pre .1 in
-    let low = c .before .before .before .before .before .before .before .before .lowest-bit in
-    let rest = c .before .without-bit in
-    let some = c .before .before .before .before .before .before .before .before .before .if1 .left in
-    let less = rest-less (a .firing) (low .result) 64 (omega (arith, some)) (low .ensures) in
-    let is = rest .ensures in
-    let same = st .pre .0 in (
-      omega arith,
-      rest-firing (a .plan .now) (a .block .now) (a .s) (a .slot .bytes) (a .j) (a .firing) (low .result) at (low .ensures) (rest .result) (rest .ensures),
+branch-loop-less : (t : ℕ) → branch-lts.Need-loop-less (of-branch t) (branch-at t) branch.Post branch-Inv-loop branch-μ-loop
+branch-loop-less t c =
+    let h = c .before .before .before .before .before .before .before .before .before .loop in
+    let some = c .before .before .before .before .before .before .before .before .loop-test .taken in
+    let low = c .before .before .before .before .before .before .before .lowest-bit in
+    let less = rest-less (h .rest) (low .result) 64 (omega (arith, some)) (low .ensures) in
+    let is = c .without-bit .ensures in
+    omega arith
+
+branch-loop-again : (t : ℕ) → branch-lts.Need-loop-again (of-branch t) (branch-at t) branch.Post branch-Inv-loop branch-μ-loop
+branch-loop-again t c =
+    let a = c .before .before .before .before .before .before .before .before .before .before .before .before .args in
+    let h = c .before .before .before .before .before .before .before .before .before .loop in
+    let at = h .inv .1 in
+    let low = c .before .before .before .before .before .before .before .lowest-bit in
+    let more = c .before .before .before .before .before .grown in
+    let call = c .before .before .before .skip in
+    let rest = c .without-bit in (
+      call .kept .1 .1 .1 .1 .1 .1 .0 ∙ h .inv .0,
+      rest-firing (a .plan .now) (a .block .now) (a .s) (a .slot .bytes) (a .j) (h .rest) (low .result) at (low .ensures) (rest .result) (rest .ensures),
+      λ after others.
+          h .inv .2 after
+          (branch-takes (a .plan .now) (a .block .now) (a .s) (a .slot .bytes) (a .j) (h .rest) (low .result) at (low .ensures)
+          (more .result) (more .ensures .0) (rest .result) (sinkOf (h .result) (h .taken)) (sinkOf (call .last .1 .1 .1 .1 .1 .1 .0) (call .result)) after
+          (rest .ensures) (call .ensures) others),
     )
 
-branch-same-length : (t : ℕ) → branch-lts.Need-same-length (of-branch t) (branch-at t) branch.Post
+branch-same-length : (t : ℕ) → branch-lts.Need-same-length (of-branch t) (branch-at t) branch.Post branch-Inv-loop branch-μ-loop
 branch-same-length t c = search needs
 
-branch-returns-2 : (t : ℕ) → branch-lts.Need-returns-2 (of-branch t) (branch-at t) branch.Post
-branch-returns-2 t c =
-    let st = c .before .before .before .before .before .before .before .before .before .before .before .before .before .before .before in
-    let a = st .args in
-    let low = c .before .before .before .before .before .before .before .before .before .before .before .lowest-bit in
-    let more = c .before .before .before .before .before .before .before .before .before .grown in
-    let call = c .before .before .before .before .before .before .before .skip in
-    let rest = c .before .before .before .before .without-bit in
-    let last = c .before .before .branch in
-    branch-takes (a .plan .now) (a .block .now) (a .s) (a .slot .bytes) (a .j) (a .firing) (low .result) (st .pre .1) (low .ensures)
-    (more .result) (more .ensures .0) (rest .result) (sinkOf (a .result .now) (a .counts)) (sinkOf (call .last .1 .1 .1 .1 .1 .0) (call .result)) (sinkOf (last .last .1 .1 .1 .1 .1 .1 .0) (last .result))
-    (rest .ensures) (call .ensures) (last .ensures)
+branch-returns : (t : ℕ) → branch-lts.Need-returns (of-branch t) (branch-at t) branch.Post branch-Inv-loop branch-μ-loop
+branch-returns t c =
+    let a = c .before .before .before .before .args in
+    let h = c .before .loop in
+    h .inv .2 (sinkOf (h .result) (h .taken))
+    (branch-done (a .plan .now) (a .block .now) (a .s) (a .slot .bytes) (a .j) (h .rest) (sinkOf (h .result) (h .taken)) (c .loop-test .left))
 
 skip-next-fire-requires : (t : ℕ) → skip-lts.Need-next-fire-requires (of-skip t) (skip-at t) skip.Post
 skip-next-fire-requires t c κs = c .before .before .before .before .before .pre .1
@@ -156,8 +167,8 @@ skip-close-requires : (t : ℕ) → skip-lts.Need-close-requires (of-skip t) (sk
 skip-close-requires t c κs =
     let st = c .before .before .before .before .before .before .before .before .before .before .before .before .before in
     let a = st .args in
-    let ready = st .pre .1 in
-    (reads-later (a .s .n) (a .j) (a .s .until) (a .t3 .bytes) (ready .within) (ready .reads), ready .usable .variables, ready .mark)
+    let ready = st .pre .1 .0 in
+    (reads-later (a .s .n) (a .j) (a .s .until) (a .t4 .bytes) (ready .within) (ready .reads), ready .usable .variables, ready .mark)
 
 skip-same-length : (t : ℕ) → skip-lts.Need-same-length (of-skip t) (skip-at t) skip.Post
 skip-same-length t c = search needs
@@ -168,12 +179,12 @@ skip-returns t c =
     let a = st .args in
     let next = c .before .before .before .before .before .before .before .before .before .before .next-fire in
     let call = c .before .before .close in
-    skip-closes (a .plan .now) (a .block .now) (a .s) (a .t3 .bytes) (a .j) (st .pre .1) (next .result) (next .ensures)
+    skip-closes (a .plan .now) (a .block .now) (a .s) (a .t4 .bytes) (a .j) (st .pre .1 .0) (next .result) (next .ensures)
     (c .before .before .before .before .before .before .before .if1 .taken) (sinkOf (a .result .now) (a .counts)) (sinkOf (call .last .0) (call .result)) (call .ensures)
 
 skip-count-of-requires : (t : ℕ) → skip-lts.Need-count-of-requires (of-skip t) (skip-at t) skip.Post
 skip-count-of-requires t c κs =
-    let size = c .before .before .before .before .before .before .before .before .before .before .before .before .pre .1 .reads .size in
+    let size = c .before .before .before .before .before .before .before .before .before .before .before .before .pre .1 .0 .reads .size in
     omega arith
 
 skip-note-over-requires : (t : ℕ) → skip-lts.Need-note-over-requires (of-skip t) (skip-at t) skip.Post
@@ -186,7 +197,7 @@ skip-returns-2 t c =
     let next = c .before .before .before .before .before .before .before .before .before .next-fire in
     let count = c .before .before .count-of in
     let note = c .note-over in
-    skip-notes (a .plan .now) (a .block .now) (a .s) (a .t3 .bytes) (a .j) (st .pre .1) (next .result) (next .ensures)
+    skip-notes (a .plan .now) (a .block .now) (a .s) (a .t4 .bytes) (a .j) (st .pre .1 .0) (next .result) (next .ensures)
     (c .before .before .before .before .before .before .if1 .left) (omega (arith, count .ensures, c .before .if2 .taken)) (a .result .now) (a .counts) (note .result) (note .ensures .0) (note .ensures .1) (note .ensures .2)
 
 skip-branch-requires : (t : ℕ) → skip-lts.Need-branch-requires (of-skip t) (skip-at t) skip.Post
@@ -196,12 +207,12 @@ skip-branch-requires t c κs =
     let next = c .before .before .before .before .before .before .before .before .before .next-fire in
     let count = c .before .before .count-of .ensures in
     let full = c .before .if2 .left in
-    let at = next-firing (a .plan .now) (a .block .now) (a .s) (a .t3 .bytes) (a .j) (st .pre .1) (next .result) (next .ensures)
+    let at = next-firing (a .plan .now) (a .block .now) (a .s) (a .t4 .bytes) (a .j) (st .pre .1 .0) (next .result) (next .ensures)
     (c .before .before .before .before .before .before .if1 .left) (λ e. full (count ∙ e)) in
     let small = at .variables in
     let from = next .ensures .from in
     let same = st .pre .0 in
-    (omega arith, at)
+    (omega arith, (at, st .pre .1 .1))
 
 skip-same-length-2 : (t : ℕ) → skip-lts.Need-same-length-2 (of-skip t) (skip-at t) skip.Post
 skip-same-length-2 t c = search needs
@@ -214,23 +225,26 @@ skip-returns-3 t c =
     let count = c .before .before .before .before .before .count-of .ensures in
     let full = c .before .before .before .before .if2 .left in
     let call = c .before .before .branch in
-    skip-branches (a .plan .now) (a .block .now) (a .s) (a .t3 .bytes) (a .j) (st .pre .1) (next .result) (next .ensures)
-    (c .before .before .before .before .before .before .before .before .before .if1 .left) (λ e. full (count ∙ e)) (sinkOf (a .result .now) (a .counts)) (sinkOf (call .last .1 .1 .1 .1 .1 .1 .0) (call .result)) (call .ensures)
+    skip-branches (a .plan .now) (a .block .now) (a .s) (a .t4 .bytes) (a .j) (st .pre .1 .0) (next .result) (next .ensures)
+    (c .before .before .before .before .before .before .before .before .before .if1 .left) (λ e. full (count ∙ e)) (sinkOf (a .result .now) (a .counts)) (sinkOf (call .last .1 .1 .1 .1 .1 .1 .1 .0) (call .result)) (call .ensures)
 
 pub +branch+skip-spec : {M : Type 1} → statement M
 +branch+skip-spec =
     close μ-branch μ-skip
     (λ t.
     branch-lts.spec (of-branch t) (branch-at t) branch.Post
-    (branch-returns t)
+    branch-Inv-loop
+    branch-μ-loop
+    (branch-loop-holds t)
     (branch-lowest-bit-requires t)
     (branch-grown-requires t)
     (branch-add-skip t)
     (branch-skip-requires t)
     (branch-without-bit-requires t)
-    (branch-branch-requires t)
+    (branch-loop-less t)
+    (branch-loop-again t)
     (branch-same-length t)
-    (branch-returns-2 t))
+    (branch-returns t))
     (λ t.
     skip-lts.spec (of-skip t) (skip-at t) skip.Post
     (skip-next-fire-requires t)

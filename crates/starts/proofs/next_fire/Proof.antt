@@ -1,47 +1,71 @@
 -- `starts::next_fire` meets its contract: no record before the one that it gives fires a step. Assumes nothing.
 use native.Mathlib.Omega.{arith}
 use native.Mathlib.Nat.{eq-or-lt-of-le}
-use mathlib.Core.Path.{_≡_, sym, subst, _∙_}
+use mathlib.Core.Path.{_≡_, sym, ap, _∙_}
 use mathlib.Core.Logic.{⊎-elim}
-use Prim.Native.Nat.{ℕ, _-_, _≤_, _<_}
+use Prim.Native.Nat.{ℕ, _+_, _-_, _≤_, _<_}
 use Rattle.slots.specs.Slots.{heldIn}
-use Rattle.starts.specs.Skips.{firingBy}
+use Rattle.starts.specs.Skips.{firingBy, leavingBy}
 use Rattle.starts.proofs.Readings.{fit}
+use Rattle.starts.proofs.Masks.{read-bound, allowed-read, firing-read, none-read}
 use borrow.Author.Needs.{needs}
 use Rattle.starts.proofs.next_fire.Statement.{statement}
 use Rattle.starts.proofs.next_fire.Tie as tie
 
 abbrev Inv-loop : tie.InvT-loop
-Inv-loop block plan s j slot i₀ i = (j ≤ i) × (i ≤ s .until) × ((k : ℕ) → j ≤ k → k < i → firingBy plan block (s .n) (s .c) k (heldIn slot) ≡ 0)
+Inv-loop block plan cans s j slot leave i₀ i = (j ≤ i) × (i ≤ s .until) × (leave ≡ leavingBy plan (s .n) (heldIn slot .state)) × ((k : ℕ) → j ≤ k → k < i → firingBy plan block (s .n) (s .c) k (heldIn slot) ≡ 0)
 
 abbrev μ-loop : tie.MeasureT-loop
-μ-loop block plan s j slot i₀ i = s .until - i
+μ-loop block plan cans s j slot leave i₀ i = s .until - i
+
+-- one record more is passed
+passed-more : (fires : ℕ → ℕ) (j i : ℕ) → fires i ≡ 0 → ((k : ℕ) → j ≤ k → k < i → fires k ≡ 0) → (k : ℕ) → j ≤ k → k < i + 1 → fires k ≡ 0
+passed-more fires j i none passed k from below =
+    ⊎-elim
+    (λ e. ap fires e ∙ none)
+    (λ l. passed k from l)
+    (eq-or-lt-of-le {n = k} {m = i} (omega arith))
+
+state-of-requires : tie.Need-state-of-requires Inv-loop μ-loop
+state-of-requires c κs = let size = c .before .before .pre .0 .reads .size in omega arith
+
+leaving-requires : tie.Need-leaving-requires Inv-loop μ-loop
+leaving-requires c κs = let usable = c .before .before .before .pre .0 .usable in (usable .sound .size, usable .variables)
 
 loop-holds : tie.Need-loop-holds Inv-loop μ-loop
-loop-holds c = (search needs, c .before .before .pre .within, λ k a b. absurd (omega arith))
-
-firing-at-requires : tie.Need-firing-at-requires Inv-loop μ-loop
-firing-at-requires c κs =
-    let st = c .before .before .before .before .before in
-    let a = st .args in
-    let ready = st .pre in
-    let h = c .before .before in
-    let end = ready .block in (
-      ready .usable .variables,
-      ready .usable .conditions,
-      fit (a .plan .now) (a .block .now) (a .s .n) (a .s .c) (a .j) (a .slot .now) (ready .usable) (ready .reads) (h .loop .i) (h .loop .inv .0) (omega (arith, c .if1 .taken)),
+unfolding heldIn
+loop-holds c =
+    let st = c .before .before .before .before in
+    let a = st .args in (
+      search needs,
+      st .pre .0 .within,
+      c .leaving .ensures ∙ ap (leavingBy (a .plan .now) (a .s .n)) (c .before .state-of .ensures),
+      λ k x y. absurd (omega arith),
     )
 
-returns : tie.Need-returns Inv-loop μ-loop
-returns c =
-    let h = c .before .before .before .before in
-    record {
-      from = h .loop .inv .0;
-      upTo = h .loop .inv .1;
-      passed = h .loop .inv .2;
-      here = λ l. c .before .firing-at .ensures;
-      some = λ l. omega (arith, c .if2 .taken);
-    }
+mul-asked : tie.Need-mul-asked Inv-loop μ-loop
+mul-asked c =
+    let ready = c .before .before .before .before .before .before .before .pre .0 in
+    let end = ready .block in
+    let records = ready .usable .records in
+    omega (arith, c .if1 .taken)
+
+element-copy-out-asked : tie.Need-element-copy-out-asked Inv-loop μ-loop
+element-copy-out-asked c =
+    let ready = c .before .before .before .before .before .before .before .pre .0 in
+    let end = ready .block in
+    let records = ready .usable .records in
+    omega (arith, c .if1 .taken)
+
+cast-asked : tie.Need-cast-asked Inv-loop μ-loop
+cast-asked c =
+    let st = c .before .before .before .before .before .before .before .before in
+    let a = st .args in
+    let ready = st .pre .0 in
+    let end = ready .block in
+    let here = c .before .if1 .taken in
+    let small = read-bound (a .plan .now) (a .block .now) (a .s .n) (a .s .c) (ready .usable .variables) (a .cans .now) (st .pre .1) (c .before .before .before .loop .i) (omega arith) in
+    omega arith
 
 add-i : tie.Need-add-i Inv-loop μ-loop
 add-i c = search needs
@@ -51,24 +75,70 @@ loop-less c = search needs
 
 loop-again : tie.Need-loop-again Inv-loop μ-loop
 loop-again c =
-    let h = c .before .before .before .before in
-    let a = h .before .before .before .args in (
-      search needs,
-      search needs,
-      λ k x y.
-          ⊎-elim
-          (λ e. subst (λ (q : ℕ). firingBy (a .plan .now) (a .block .now) (a .s .n) (a .s .c) q (heldIn (a .slot .now)) ≡ 0) (sym e) (sym (c .before .firing-at .ensures) ∙ c .if2 .left))
-          (λ l. h .loop .inv .2 k x l)
-          (eq-or-lt-of-le {n = k} {m = h .loop .i} (omega arith)),
+    let st = c .before .before .before .before .before .before .before .before .before in
+    let a = st .args in
+    let ready = st .pre .0 in
+    let h = c .before .before .before .before .loop in
+    let end = ready .block in
+    let here = c .before .before .if1 .taken in
+    let none = none-read (a .plan .now) (a .block .now) (a .s .n) (a .s .c) (ready .usable .variables) (a .cans .now) (st .pre .1) (h .i) (omega arith) (heldIn (a .slot .now)) (c .before .before .before .before .before .leaving .result) (h .inv .2) (c .if2 .taken) in
+    (search needs, search needs, h .inv .2, passed-more (λ k. firingBy (a .plan .now) (a .block .now) (a .s .n) (a .s .c) k (heldIn (a .slot .now))) (a .j) (h .i) none (h .inv .3))
+
+firing-of-requires : tie.Need-firing-of-requires Inv-loop μ-loop
+firing-of-requires c κs =
+    let st = c .before .before .before .before .before .before .before .before .before in
+    let a = st .args in
+    let ready = st .pre .0 in
+    let h = c .before .before .before .before .loop in
+    let end = ready .block in
+    let here = c .before .before .if1 .taken in (
+      allowed-read (a .plan .now) (a .block .now) (a .s .n) (a .s .c) (ready .usable .variables) (a .cans .now) (st .pre .1) (h .i) (omega arith) (c .before .before .before .before .before .leaving .result),
+      fit (a .plan .now) (a .block .now) (a .s .n) (a .s .c) (a .j) (a .slot .now) (ready .usable) (ready .reads) (h .i) (h .inv .0) (omega arith),
     )
+
+returns : tie.Need-returns Inv-loop μ-loop
+returns c =
+    let st = c .before .before .before .before .before .before .before .before .before .before .before in
+    let a = st .args in
+    let ready = st .pre .0 in
+    let h = c .before .before .before .before .before .before .loop in
+    let end = ready .block in
+    let here = c .before .before .before .before .if1 .taken in
+    record {
+      from = h .inv .0;
+      upTo = h .inv .1;
+      passed = h .inv .3;
+      here = λ l.
+          c .before .firing-of .ensures
+          ∙ firing-read (a .plan .now) (a .block .now) (a .s .n) (a .s .c) (ready .usable .variables) (a .cans .now) (st .pre .1) (h .i) (omega arith) (heldIn (a .slot .now)) (c .before .before .before .before .before .before .before .leaving .result) (h .inv .2);
+      some = λ l. omega (arith, c .if3 .taken);
+    }
+
+add-i-2 : tie.Need-add-i-2 Inv-loop μ-loop
+add-i-2 c = search needs
+
+loop-less-2 : tie.Need-loop-less-2 Inv-loop μ-loop
+loop-less-2 c = search needs
+
+loop-again-2 : tie.Need-loop-again-2 Inv-loop μ-loop
+loop-again-2 c =
+    let st = c .before .before .before .before .before .before .before .before .before .before .before in
+    let a = st .args in
+    let ready = st .pre .0 in
+    let h = c .before .before .before .before .before .before .loop in
+    let end = ready .block in
+    let here = c .before .before .before .before .if1 .taken in
+    let read = firing-read (a .plan .now) (a .block .now) (a .s .n) (a .s .c) (ready .usable .variables) (a .cans .now) (st .pre .1) (h .i) (omega arith) (heldIn (a .slot .now)) (c .before .before .before .before .before .before .before .leaving .result) (h .inv .2) in
+    let none = sym read ∙ sym (c .before .firing-of .ensures) ∙ c .if3 .left in
+    (search needs, search needs, h .inv .2, passed-more (λ k. firingBy (a .plan .now) (a .block .now) (a .s .n) (a .s .c) k (heldIn (a .slot .now))) (a .j) (h .i) none (h .inv .3))
 
 returns-2 : tie.Need-returns-2 Inv-loop μ-loop
 returns-2 c =
-    let h = c .before .before in
+    let h = c .before .before .loop in
     record {
-      from = h .loop .inv .0;
-      upTo = h .loop .inv .1;
-      passed = h .loop .inv .2;
+      from = h .inv .0;
+      upTo = h .inv .1;
+      passed = h .inv .3;
       here = λ l. absurd (omega (arith, c .if1 .left));
       some = λ l. absurd (omega (arith, c .if1 .left));
     }
@@ -79,10 +149,18 @@ next-fire-spec =
     (tie.spec
     Inv-loop
     μ-loop
+    state-of-requires
+    leaving-requires
     loop-holds
-    firing-at-requires
-    returns
+    mul-asked
+    element-copy-out-asked
+    cast-asked
     add-i
     loop-less
     loop-again
+    firing-of-requires
+    returns
+    add-i-2
+    loop-less-2
+    loop-again-2
     returns-2)

@@ -1,6 +1,6 @@
 -- `starts::pass` meets its contract: the plan is the pattern's, and the block's times rise. Assumes nothing.
 use mathlib.Core.Path.{refl}
-use Rattle.firing.proofs.Plans.{sound-plan}
+use Rattle.firing.proofs.Plans.{sound-plan, classed-plan}
 use Rattle.starts.proofs.Ends.{never-fall}
 use borrow.Author.Needs.{needs}
 use Rattle.starts.proofs.pass.Statement.{statement}
@@ -16,6 +16,7 @@ each-start-requires c κs =
     let plan = c .before .before .plan-of in
     record {
       sound = sound-plan (a .p) (st .pre .0) (plan .result) (plan .ensures);
+      classed = classed-plan (a .p) (st .pre .0) (plan .result) (plan .ensures);
       variables = st .pre .0 .few;
       conditions = st .pre .0 .fewConditions;
       records = st .pre .1 .few;

@@ -1,12 +1,12 @@
--- `firing::weight_if` meets its contract. Assumes nothing.
+-- `numbers::weight_if` meets its contract. Assumes nothing.
 use mathlib.Core.Path.{_≡_, _∙_, sym, ap}
 use mathlib.Core.Bool.{Bool}
 use Prim.Native.Nat.{ℕ, _*_, _^_}
 use native.Mathlib.Nat.{one-mul, zero-mul}
 use borrow.Author.Needs.{needs}
 use Rattle.numbers.specs.Numbers.{oneIf}
-use Rattle.firing.proofs.weight_if.Statement.{statement}
-use Rattle.firing.proofs.weight_if.Tie as tie
+use Rattle.numbers.proofs.weight_if.Statement.{statement}
+use Rattle.numbers.proofs.weight_if.Tie as tie
 
 weight-requires : tie.Need-weight-requires
 weight-requires c κs = search needs
