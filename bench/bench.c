@@ -1,7 +1,7 @@
 /*
- * bench: times the library's two passes against the yardstick's on five workloads, and measures the stack of a call.
- * Both must give the same answer and the same bytes on each. Times are the least of several rounds, the two taken in
- * turn; the stack is painted before a call, and what the call overwrote is counted.
+ * bench [--stack]: times the library's two passes against the yardstick's on five workloads, and measures the stack of a
+ * call; with --stack only that. Both must give the same answer and the same bytes on each. Times are the least of several
+ * rounds, the two taken in turn; the stack is painted before a call, and what the call overwrote is counted.
  */
 #define _DEFAULT_SOURCE
 #include <stdbool.h>
@@ -117,15 +117,35 @@ static size_t painted(pass run, const struct workload *w) {
   return STACK_BYTES - clean;
 }
 
-static void print_stack(const struct workload *w) {
-  size_t without = painted(NULL, w);
-  printf("%-24s %10zu %10zu %10zu %10zu\n", w->name, painted(library_forward, w) - without,
-         painted(library_starts, w) - without, painted(plain_forward, w) - without, painted(plain_starts, w) - without);
+/* One line of the table; false where a call of the library takes more than the header says. */
+static bool print_stack(const struct workload *w) {
+  size_t without = painted(NULL, w), forward = painted(library_forward, w) - without;
+  size_t starts = painted(library_starts, w) - without;
+  printf("%-24s %10zu %10zu %10zu %10zu\n", w->name, forward, starts, painted(plain_forward, w) - without,
+         painted(plain_starts, w) - without);
+  if (forward <= SPALDEP_STACK_FORWARD && starts <= SPALDEP_STACK_START_BY_START) return true;
+  printf("%-24s FAILED: include/spaldep.h says %u and %u\n", w->name, SPALDEP_STACK_FORWARD,
+         SPALDEP_STACK_START_BY_START);
+  return false;
 }
 
-int main(void) {
+static bool print_stacks(void) {
   static struct workload w;
   bool all = true;
+  make_workload(0, &w);
+  painted(library_forward, &w); /* the first call of a function of the C library takes stack to find it */
+  printf("stack of a call, bytes; library forward, start-by-start, then plain C\n");
+  for (unsigned i = 0; i <= WORKLOADS; i++) {
+    make_workload(i, &w);
+    all = print_stack(&w) && all;
+  }
+  return all;
+}
+
+int main(int count, char **words) {
+  static struct workload w;
+  bool all = true;
+  if (count == 2 && strcmp(words[1], "--stack") == 0) return print_stacks() ? 0 : 1;
   printf("%-15s %-24s %8s %6s %10s %10s %7s\n", "pass", "workload", "readings", "peak", "library us", "plain C us",
          "ratio");
   for (unsigned i = 0; i < WORKLOADS; i++) {
@@ -136,10 +156,7 @@ int main(void) {
     make_workload(i, &w);
     all = compare_times("start-by-start", library_starts, plain_starts, &w) && all;
   }
-  printf("\nstack of a call, bytes; library forward, start-by-start, then plain C\n");
-  for (unsigned i = 0; i <= WORKLOADS; i++) {
-    make_workload(i, &w);
-    print_stack(&w);
-  }
+  printf("\n");
+  all = print_stacks() && all;
   return all ? 0 : 1;
 }

@@ -125,11 +125,11 @@ static void idle_workload(struct workload *w) {
   for (size_t i = 0; i < RECORDS; i++) put_record(w, i, chance(4), 3 + chance(3), chance(100), chance(100));
 }
 
-/* Six group variables of one set. Each of 32 events fires all six while only variable 5 is bound; once another is, that
-   one's loop alone fires, since no two of the first five go together. */
+/* Twelve group variables, six of each of two sets. Each of 32 events fires all six of the first set while only variable 5
+   is bound; once another is, that one's loop alone fires, since no two of the first five go together. */
 static void deep_workload(struct workload *w) {
   w->name = "deepest (stack only)";
-  begin_pattern(w, 6, "\x18\x18\x18\x18\x18\x18", 0xffffffffff);
+  begin_pattern(w, 12, "\x18\x18\x18\x18\x18\x18\x28\x28\x28\x28\x28\x28", 0xffffffffff);
   for (unsigned v = 0; v < 6; v++) with_constant(w, v, CLASS, EQUAL, 0);
   for (unsigned v = 0; v < 5; v++) {
     with_variable(w, v, SLOT, ABOVE, 5, SLOT);
