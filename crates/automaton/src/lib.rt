@@ -202,17 +202,6 @@ fn is_carried(k: Condition, s: u64, v: usize) -> bool
     false
 }
 
-// The weight of condition i, where the flag says so.
-fn weight_if(flag: bool, i: usize) -> u64
-    requires { ⌜ i < mostConditions ⌝ }
-    ensures { λ r. ⌜ r ≡ oneIf flag * 2 ^ i ⌝ }
-{
-    if flag {
-        return numbers::weight(i);
-    }
-    0
-}
-
 // The conditions that the step on v from state s carries.
 fn carried_conditions(p: Pattern, s: u64, v: usize) -> u64
     requires { ⌜ InOrder p ⌝ }
@@ -222,7 +211,7 @@ fn carried_conditions(p: Pattern, s: u64, v: usize) -> u64
     let mut carried: u64 = 0;
     let mut i = 0;
     while i < c {
-        carried = carried + weight_if(is_carried(condition(p, i), s, v), i);
+        carried = carried + numbers::weight_if(is_carried(condition(p, i), s, v), i);
         i += 1;
     }
     carried
