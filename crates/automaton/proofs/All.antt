@@ -14,6 +14,10 @@ pub implies-of : (s t : Bool) → (s ≡ true → t ≡ true) → implies s t �
 implies-of true t f = f refl
 implies-of false t f = refl
 
+pub implies-yes : (t : Bool) → implies t true ≡ true
+implies-yes true = refl
+implies-yes false = refl
+
 pub implies-true : (s t : Bool) → implies s t ≡ true → s ≡ true → t ≡ true
 implies-true true t e h = e
 implies-true false t e h = absurd (true≢false (sym h))

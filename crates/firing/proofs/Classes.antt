@@ -1,7 +1,7 @@
 -- The variables whose own conditions hold of an event: those whose conditions on class hold of the event's class, settled by
 -- the other conditions one by one. Assumes nothing.
 use mathlib.Core.Path.{_≡_, _∙_, refl, sym, ap, ap₂}
-use mathlib.Core.Bool.{Bool, true, false, not, _&&_, _||_}
+use mathlib.Core.Bool.{Bool, true, false, not, _&&_, _||_, and-false, or-true}
 use mathlib.Core.List.{List}
 use Prim.Native.Nat.{ℕ, _-_, _*_, _^_, _/_, _<_}
 use native.Mathlib.Omega.{arith}
@@ -95,14 +95,6 @@ module _ (k : Condition) where
       (λ o. sym (ap₂ (λ (s t : Bool). s || implies t (holds k r r)) o (own-none k (neither-own off o) v))))
 
 -- ## The bits that are left
-
-or-true : (t : Bool) → t || true ≡ true
-or-true true = refl
-or-true false = refl
-
-and-false : (t : Bool) → t && false ≡ false
-and-false true = refl
-and-false false = refl
 
 module _ (rest c at : ℕ) (small : rest < 2 ^ c) (here : bit rest at ≡ true) where
   pub bit-below : at < c

@@ -1,7 +1,7 @@
 -- What a step on v asks of one condition falls into two parts: what the new event alone decides, and what each binding of
 -- the other variable decides together with it. Assumes nothing.
 use mathlib.Core.Path.{_≡_, _∙_, refl, sym, ap, ap₂}
-use mathlib.Core.Bool.{Bool, true, false, not, _&&_, _||_}
+use mathlib.Core.Bool.{Bool, true, false, not, _&&_, _||_, and-true, or-false}
 use mathlib.Core.List.{List, [], _∷_, map}
 use Prim.Native.Nat.{ℕ}
 use lib.Dec.{eqb}
@@ -11,7 +11,7 @@ use Rattle.patterns.specs.declared.Condition.{Condition}
 use Rattle.patterns.specs.Comparison.{holds}
 use Rattle.automaton.specs.Lists.{implies, all, keep, filter}
 use Rattle.automaton.specs.Automaton.{carries}
-use Rattle.automaton.proofs.All.{all-same}
+use Rattle.automaton.proofs.All.{all-same, implies-yes}
 use Rattle.rule.specs.Rule.{Block, Binding, Reading, recordIn, binds, choices, passes}
 use Rattle.firing.specs.Plan.{isOwn, joins, isJoin}
 
@@ -31,18 +31,6 @@ module _ (look : ℕ → Record) (i v : ℕ) (k : Condition) (b : Binding) where
   -- v is named on the second side
   pub pair-second : eqb (k .variable) v ≡ false → pairOf look i v k b ≡ implies (eqb (b .variable) (k .variable)) (holds k (look (b .at)) (look i))
   pair-second e = rw (e, pairOf)
-
-and-true : (t : Bool) → t && true ≡ t
-and-true true = refl
-and-true false = refl
-
-or-false : (t : Bool) → t || false ≡ t
-or-false true = refl
-or-false false = refl
-
-implies-yes : (t : Bool) → implies t true ≡ true
-implies-yes true = refl
-implies-yes false = refl
 
 -- ## The bindings of one variable
 

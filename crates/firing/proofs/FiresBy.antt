@@ -24,7 +24,7 @@ use Rattle.patterns.specs.Comparison.{holds}
 use Rattle.automaton.specs.Lists.{implies, all}
 use Rattle.automaton.specs.Automaton.{conditions, leaves, marked, carries}
 use Rattle.automaton.proofs.Lists.{all-mem}
-use Rattle.automaton.proofs.All.{implies-of, implies-true, all-of, all-same, all-map, all-upto}
+use Rattle.automaton.proofs.All.{implies-of, implies-true, all-of, all-same, all-map, all-upto, implies-yes}
 use Rattle.rule.specs.Rule.{Binding, Reading, TimesNeverFall, behindEnd, recordIn, timeAt, binds, passes, inOrder, allowed, fires}
 use Rattle.slots.specs.Slots.{holding}
 use Rattle.firing.specs.Plan.{isOwn, isJoin, joinMask, conditionIn, marksIn, joinsIn, IsPlan}
@@ -32,10 +32,6 @@ use Rattle.firing.specs.Firing.{ownHolds, canBy, leavesBy, laterThan, la
 use Rattle.firing.proofs.States.{leaves-by, marked-by}
 use Rattle.firing.proofs.Conditions.{pairOf, condition-parts}
 use Rattle.firing.proofs.Plans.{before-in, after-in, marks-in, joins-in}
-
-implies-yes : (t : Bool) → implies t true ≡ true
-implies-yes true = refl
-implies-yes false = refl
 
 -- what decides a reading may be tested in any order
 reordered : (a l t j : Bool) → a && (l && (t && j)) ≡ l && (t && (a && j))

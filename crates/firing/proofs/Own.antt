@@ -1,7 +1,8 @@
 -- A mask of variables, settled condition by condition: by conditions that look at one event alone, and by those on class.
 -- Assumes nothing.
+use Rattle.automaton.proofs.All.{implies-yes}
 use mathlib.Core.Path.{_≡_, _∙_, refl, sym, ap, ap₂}
-use mathlib.Core.Bool.{Bool, true, false, not, _&&_, _||_}
+use mathlib.Core.Bool.{Bool, true, false, not, _&&_, _||_, and-true, and-self}
 use Prim.Native.Nat.{ℕ, _+_, _-_, _*_, _^_}
 use borrow.Author.Tests.{ne-eqb, eqb-true, eqb-false}
 use lib.Dec.{eqb}
@@ -30,23 +31,11 @@ module _ (can : ℕ) (k : Condition) (r : Record) where
   unfolding settled
   settled-fails e f = rw (e, f, settled)
 
-and-true : (t : Bool) → t && true ≡ t
-and-true true = refl
-and-true false = refl
-
-and-self : (t : Bool) → t && t ≡ t
-and-self true = refl
-and-self false = refl
-
 swapped : (s t : Bool) → s && t ≡ t && s
 swapped true true = refl
 swapped true false = refl
 swapped false true = refl
 swapped false false = refl
-
-implies-yes : (t : Bool) → implies t true ≡ true
-implies-yes true = refl
-implies-yes false = refl
 
 implies-not : (t : Bool) → implies t false ≡ not t
 implies-not true = refl

@@ -1,6 +1,6 @@
 -- A slot that holds a reading below record i is one that the tests can look at. Assumes nothing.
 use mathlib.Core.Path.{_≡_, _∙_, refl, sym, ap, subst}
-use mathlib.Core.Bool.{Bool, true, false, _||_}
+use mathlib.Core.Bool.{Bool, true, false, _||_, or-true}
 use mathlib.Core.List.{List, [], _∷_, List·Memᴰ, List·Memᴰ·head, List·Memᴰ·tail}
 use Prim.Native.Nat.{ℕ, _+_, _*_, _≤_, _<_}
 use native.Mathlib.Omega.{arith}
@@ -19,10 +19,6 @@ use Rattle.slots.specs.Slots.{Held, slotBytes, countIn, stateIn, bindingsIn, he
 use Rattle.firing.specs.Plan.{IsPlan}
 use Rattle.firing.specs.Firing.{ReadBelow, Seated, Fit}
 use Rattle.firing.proofs.Plans.{sound-plan}
-
-or-true : (t : Bool) → t || true ≡ true
-or-true true = refl
-or-true false = refl
 
 -- what is among the bindings is bound
 member-bound : {b : Binding} {r : Reading} → List·Memᴰ b r → binds r (b .variable) ≡ true

@@ -1,4 +1,5 @@
 -- What a held reading decides, case by case: whether a variable leaves its state, and the order mark. Assumes nothing.
+use Rattle.automaton.proofs.All.{implies-yes}
 use mathlib.Core.Path.{_≡_, _∙_, refl, ap}
 use mathlib.Core.Bool.{Bool, true, false}
 use mathlib.Core.List.{List, [], _∷_, List·Memᴰ, List·Memᴰ·head, List·Memᴰ·tail}
@@ -38,10 +39,6 @@ binding-among slot (suc n) j h =
     by-order j n
     (λ l. List·Memᴰ·tail (rest l))
     (λ l. let e : j ≡ n = omega arith in List·Memᴰ·head (ap (bindingAt slot) e))
-
-implies-yes : (t : Bool) → implies t true ≡ true
-implies-yes true = refl
-implies-yes false = refl
 
 latest-of : (bytes slot : List ℕ) (i n : ℕ) → 1 ≤ n → laterThan bytes i (bindingsIn slot n) ≡ ltb (recordAt bytes (bindingAt slot (n - 1) .at) .time) (recordAt bytes i .time)
 unfolding laterThan bindingsIn

@@ -1,7 +1,7 @@
 -- The masks of a plan against the number of a state: v leaves the state, and the order mark stands, exactly where the
 -- automaton says so. Assumes nothing.
 use mathlib.Core.Path.{_≡_, _∙_, refl, sym, ap, ap₂}
-use mathlib.Core.Bool.{Bool, true, false, not, _&&_, _||_, true≢false}
+use mathlib.Core.Bool.{Bool, true, false, not, _&&_, _||_, true≢false, or-false}
 use Prim.Native.Nat.{ℕ, _≤_, _<_}
 use native.Mathlib.Omega.{arith}
 use borrow.Author.Tests.{lt-ltb, le-ltb, lt-leb, eq-eqb, ltb-true, leb-false, not-true}
@@ -113,10 +113,6 @@ module _ (p : Pattern) (few : p .n ≤ mostVariables) (S : State) (v : ℕ) (l :
   leaves-unbound : S v ≡ false → within (variableMask p 0 v) (mask S mostVariables) ≡ leaves p S v
   unfolding leaves opens loops
   leaves-unbound free = rw (lt-ltb v (p .n) l, free) (opens-by ∙ sym (or-false (all (λ u. implies (ltb (setOf p u) (setOf p v)) (S u)) (variablesOf p))))
-    where
-      or-false : (t : Bool) → t || false ≡ t
-      or-false true = refl
-      or-false false = refl
 
   pub leaves-by : elim (bit (mask S mostVariables) v) [ true ↦ disjoint (mask S mostVariables) (variableMask p 1 v) | false ↦ within (variableMask p 0 v) (mask S mostVariables) ] ≡ leaves p S v
   leaves-by =

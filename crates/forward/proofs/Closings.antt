@@ -2,7 +2,7 @@
 -- takes a 33rd binding. Assumes nothing.
 use mathlib.Core.Path.{_≡_, refl, sym, ap, ap₂, _∙_}
 use mathlib.Core.Logic.{_⊎_, inl, inr}
-use mathlib.Core.Bool.{Bool, true, false, not, _&&_, _||_, true≢false}
+use mathlib.Core.Bool.{Bool, true, false, not, _&&_, _||_, true≢false, and-false}
 use mathlib.Core.List.{List, [], _∷_, map, List·Memᴰ, List·Memᴰ·head, List·Memᴰ·tail, List·Memᴰ·append-cases}
 use Prim.Native.Nat.{ℕ, zero, suc, _+_, _-_, _*_, _^_, _≤_, _<_}
 use native.Mathlib.Nat.{add-zero, add-suc}
@@ -54,10 +54,6 @@ slots-none work at = refl
 not-twice : (t : Bool) → not (not t) ≡ t
 not-twice true = refl
 not-twice false = refl
-
-and-false : (t : Bool) → t && false ≡ false
-and-false true = refl
-and-false false = refl
 
 pub can-event : (plan : List ℕ) (n c : ℕ) (bytes : List ℕ) (i : ℕ) → isEventBy bytes i ≡ true → canAt plan n c bytes i ≡ canBy plan n c bytes i
 unfolding canAt

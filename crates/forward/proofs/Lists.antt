@@ -17,15 +17,6 @@ use Rattle.automaton.proofs.Ordered.{Ordered}
 use Rattle.rule.specs.Lists.{only, orElse, any}
 use Rattle.forward.proofs.Lines.{filter-append, map-append}
 
-pub upto-below : (k m : ℕ) {w : ℕ} → List·Memᴰ w (upto k m) → w < k + m
-unfolding upto
-upto-below k zero h = absurd (List·Memᴰ·not-nil h)
-upto-below k (suc m) {w} h = go (λ i. upto-below (suc k) m i) (List·Memᴰ·cases-cons h)
-  where
-    go : (List·Memᴰ w (upto (suc k) m) → w < suc k + m) → (w ≡ k) ⊎ List·Memᴰ w (upto (suc k) m) → w < k + suc m
-    go ih (inl e) = omega arith
-    go ih (inr i) = omega (arith, ih i)
-
 module _ {A : Type 0} where
   pub getD-mem : (l : List A) (k : ℕ) (d : A) → k < length l → List·Memᴰ (getD l k d) l
   getD-mem [] k d h = absurd (not-suc-le-zero h)

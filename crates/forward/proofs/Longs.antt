@@ -1,6 +1,6 @@
 -- Whether a reading put out has a 33rd binding: of lists, and of slots. Assumes nothing.
 use mathlib.Core.Path.{_≡_, refl, sym, ap, _∙_}
-use mathlib.Core.Bool.{Bool, true, false, _||_}
+use mathlib.Core.Bool.{Bool, true, false, _||_, or-true, or-false}
 use mathlib.Core.List.{List, [], _∷_, _++_}
 use Prim.Native.Nat.{ℕ, zero, suc, _+_, _*_, _≤_, _<_}
 use native.Mathlib.Omega.{arith}
@@ -16,14 +16,6 @@ use Rattle.forward.specs.Live.{isLong, long}
 or-assoc : (p q r : Bool) → p || (q || r) ≡ (p || q) || r
 or-assoc true q r = refl
 or-assoc false q r = refl
-
-or-false : (p : Bool) → p || false ≡ p
-or-false true = refl
-or-false false = refl
-
-or-true : (p : Bool) → p || true ≡ true
-or-true true = refl
-or-true false = refl
 
 pub long-append : (a b : List Held) → long (a ++ b) ≡ long a || long b
 unfolding long any

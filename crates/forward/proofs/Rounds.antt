@@ -20,7 +20,7 @@ use Rattle.patterns.specs.declared.Pattern.{Pattern}
 use Rattle.patterns.specs.Patterns.{mostVariables}
 use Rattle.patterns.specs.Checked.{InOrder}
 use Rattle.automaton.specs.Lists.{filter, collect}
-use Rattle.automaton.proofs.Lists.{mem-filter}
+use Rattle.automaton.proofs.Lists.{mem-filter, upto-below}
 use Rattle.automaton.proofs.All.{all-upto}
 use Rattle.automaton.proofs.Ordered.{Ordered}
 use Rattle.rule.specs.Rule.{Block, Binding, Reading, TimesNeverFall, behindEnd, recordIn, timeAt, startOf, lastOf, binds, fires, isFull, Before, sooner, smaller}
@@ -37,7 +37,7 @@ use Rattle.firing.specs.Firing.{ownHolds, canBy, leavesBy, agreesBy, firesBy, R
 use Rattle.firing.proofs.FiresBy.{fires-by}
 use Rattle.forward.specs.Live.{firedBy, extendBy, unbound, stepBy, isEventBy, isLate, isFullBy, linesBy}
 use Rattle.forward.proofs.Lines.{map-append}
-use Rattle.forward.proofs.Lists.{upto-below, filter-upto, filter-same, map-same, map-filter, map-collect, map-or-else, collect-only}
+use Rattle.forward.proofs.Lists.{filter-upto, filter-same, map-same, map-filter, map-collect, map-or-else, collect-only}
 
 -- ## Full readings
 

@@ -1,6 +1,6 @@
 -- The step on held readings: what one reading becomes, variable by variable, and what all become. Assumes nothing.
 use mathlib.Core.Path.{_≡_, refl, sym, ap, _∙_}
-use mathlib.Core.Bool.{Bool, true, false, _&&_}
+use mathlib.Core.Bool.{Bool, true, false, _&&_, and-true}
 use mathlib.Core.List.{List, [], _∷_, _++_, map, append-nil}
 use Prim.Native.Nat.{ℕ, _-_, _^_, _≤_, _<_}
 use native.Mathlib.Omega.{arith}
@@ -120,10 +120,6 @@ module _ (plan : List ℕ) (i : ℕ) where
     agrees-unbound v =
         λ j. implies-of (disjoint 0 (marksIn plan v)) true (λ e. refl) j
         && every-of (joinHolds plan bytes i v []) mostConditions (λ k l. implies-of (bit (joinsIn plan v) k) true (λ e. refl)) j
-
-    and-true : (t : Bool) → t && true ≡ t
-    and-true true = refl
-    and-true false = refl
 
     pub begun-fired : (can : ℕ) → begunBy plan i can ≡ firedBy plan bytes i can unbound
     unfolding begunBy firedBy firesBy unbound

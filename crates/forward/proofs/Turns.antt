@@ -1,6 +1,6 @@
 -- The variables of a mask in turn, the lowest first: one more, none left, and how many there are. Assumes nothing.
 use mathlib.Core.Path.{_≡_, refl, sym, ap, subst, _∙_}
-use mathlib.Core.Bool.{Bool, true, false, not, _&&_}
+use mathlib.Core.Bool.{Bool, true, false, not, _&&_, and-false}
 use mathlib.Core.List.{List, [], _∷_, _++_, map, List·Memᴰ, List·Memᴰ·not-nil, List·Memᴰ·cases-cons}
 use mathlib.Core.Logic.{_⊎_, inl, inr}
 use Prim.Native.Nat.{ℕ, zero, suc, _+_, _-_, _^_, _≤_, _<_}
@@ -100,10 +100,6 @@ module _ {A : Type 0} (test : ℕ → Bool) (make : ℕ → A) (n : ℕ) where
   module _ (rest v bits : ℕ) (small : rest < 2 ^ n) (low : IsLowestBit bits rest v) where
     less : (u : ℕ) → bit (rest - 2 ^ v) u ≡ not (eqb v u) && bit rest u
     less u = less-bit rest n v u small (low .here)
-
-    and-false : (t : Bool) → t && false ≡ false
-    and-false true = refl
-    and-false false = refl
 
     gone : (u : ℕ) → u ≤ v → bit (rest - 2 ^ v) u ≡ false
     gone u l =

@@ -1,6 +1,6 @@
 -- The bits of a number, numbers made of bits, and the bits of bitAnd and bitOr. Assumes nothing.
 use mathlib.Core.Path.{_≡_, _∙_, refl, sym, ap, ap₂, subst}
-use mathlib.Core.Bool.{Bool, true, false, not, _&&_, _||_, true≢false, or-comm}
+use mathlib.Core.Bool.{Bool, true, false, not, _&&_, _||_, true≢false, or-comm, and-false}
 use Prim.Native.Nat.{ℕ, zero, suc, _+_, _-_, _*_, _/_, _%_, _^_, _≤_, _<_, zero-le}
 use native.Mathlib.Nat.{add-comm, div-eq-of-lt, div-div-eq-div-mul, div-mul-le-self, div-one, le-refl, le-trans, lt-of-le-of-lt, lt-of-lt-of-le, mod-eq-of-lt, mod-le, mod-lt, mod-one, mul-div-cancel, mul-le-mul-right, mul-mod-left, not-suc-le-zero, le-of-suc-le-suc, pow-suc, pow-succ', zero-lt-suc}
 use native.Mathlib.Numerals.{add-one, one-add}
@@ -222,10 +222,6 @@ bit-without a n w v h =
     (λ l. mask-inside (λ u. not (eqb w u) && bit a u) n v l)
     (λ l. bit-high (mask (λ u. not (eqb w u) && bit a u) n) n v (mask-bound (λ u. not (eqb w u) && bit a u) n) l ∙ sym (none l))
   where
-    and-false : (t : Bool) → t && false ≡ false
-    and-false true = refl
-    and-false false = refl
-
     none : n ≤ v → not (eqb w v) && bit a v ≡ false
     none l = ap (λ (t : Bool). not (eqb w v) && t) (bit-high a n v h l) ∙ and-false (not (eqb w v))
 

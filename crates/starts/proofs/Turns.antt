@@ -1,7 +1,7 @@
 -- Each firing variable in turn, by the bits of a mask: none left, the lowest first, and the variables that fire by the rule.
 -- Assumes nothing.
 use mathlib.Core.Path.{_≡_, refl, sym, ap, ap₂, _∙_}
-use mathlib.Core.Bool.{Bool, true, false, not, _&&_}
+use mathlib.Core.Bool.{Bool, true, false, not, _&&_, and-false}
 use mathlib.Core.List.{List, [], _++_}
 use Prim.Native.Nat.{ℕ, zero, suc, _+_, _-_, _*_, _^_, _≤_, _<_}
 use native.Mathlib.Omega.{arith}
@@ -70,10 +70,6 @@ module _ (next : ℕ → List Found) (n : ℕ) where
           ∙ by-order u v
           (λ b. ap (λ (t : Bool). not (eqb v u) && t) (low .none u b) ∙ and-false (not (eqb v u)))
           (λ b. let e : v ≡ u = omega arith in ap (λ (t : Bool). not t && bit firing u) (eq-eqb v u e))
-        where
-          and-false : (t : Bool) → t && false ≡ false
-          and-false true = refl
-          and-false false = refl
 
 -- the variables of a mask
 pub mask-turn : (test : ℕ → Bool) (next : ℕ → List Found) (n firing : ℕ) → firing ≡ mask test n → inTurn test next 0 (n - 0) ≡ inTurn (bit firing) next 0 n
@@ -93,10 +89,6 @@ rest-known firing v u h l e =
     by-order u mostVariables
     (λ m. clash e (rest-bit firing v u h l m ∙ ap (λ (x : Bool). not (eqb v u) && x) t ∙ and-false (not (eqb v u))))
     (λ m. clash e (bit-high (firing - oneIf (bit firing v) * 2 ^ v) mostVariables u (omega arith) m)))
-  where
-    and-false : (t : Bool) → t && false ≡ false
-    and-false true = refl
-    and-false false = refl
 
 pub rest-less : (firing v bits : ℕ) → 0 < firing → IsLowestBit bits firing v → firing - oneIf (bit firing v) * 2 ^ v < firing
 rest-less firing v bits h low =

@@ -1,5 +1,6 @@
 -- `spaldep::pack` meets its contract. Assumes nothing.
 use Rattle.spaldep.specs.Packed.{packedAnswer}
+use native.Mathlib.Omega.{arith}
 use borrow.Author.Needs.{needs}
 use Rattle.spaldep.proofs.pack.Statement.{statement}
 use Rattle.spaldep.proofs.pack.Tie as tie
@@ -45,7 +46,8 @@ add-result-3 c = search needs
 
 returns : tie.Need-returns
 unfolding packedAnswer
-returns c = cc
+returns c =
+    omega (arith, c .capped4 .ensures, c .before .before .capped3 .ensures, c .before .before .before .capped2 .ensures, c .before .before .before .before .place-or-used .ensures, c .before .before .before .before .before .capped .ensures)
 
 pub pack-spec : {M : Type 1} → statement M
 pack-spec =
