@@ -1,8 +1,8 @@
 -- What a step on v asks of one condition falls into two parts: what the new event alone decides, and what each binding of
 -- the other variable decides together with it. Assumes nothing.
 use mathlib.Core.Path.{_≡_, _∙_, refl, sym, ap, ap₂}
-use mathlib.Core.Bool.{Bool, true, false, not, _&&_, _||_, and-true, or-false}
-use mathlib.Core.List.{List, [], _∷_, map}
+use mathlib.Core.Bool.{Bool, true, false, _&&_, and-true, or-false}
+use mathlib.Core.List.{[], _∷_, map}
 use Prim.Native.Nat.{ℕ}
 use lib.Dec.{eqb}
 use Rattle.numbers.proofs.Cases.{by-test, neither}
@@ -11,7 +11,7 @@ use Rattle.patterns.specs.declared.Condition.{Condition}
 use Rattle.patterns.specs.Comparison.{holds}
 use Rattle.automaton.specs.Lists.{implies, all, keep, filter}
 use Rattle.automaton.specs.Automaton.{carries}
-use Rattle.automaton.proofs.All.{all-same, implies-yes}
+use Rattle.automaton.proofs.All.{all-same}
 use Rattle.rule.specs.Rule.{Block, Binding, Reading, recordIn, binds, choices, passes}
 use Rattle.firing.specs.Plan.{isOwn, joins, isJoin}
 

@@ -1,13 +1,12 @@
 -- The test in parts is the rule's: the step on v fires by the plan, the mask and the held reading exactly where it fires
 -- by the pattern, the block and the reading. Assumes nothing.
 use mathlib.Core.Path.{_≡_, _∙_, refl, sym, ap, ap₂}
-use mathlib.Core.Bool.{Bool, true, false, not, _&&_, _||_}
-use mathlib.Core.List.{List, [], _∷_, map, List·Memᴰ, List·Memᴰ·head}
+use mathlib.Core.Bool.{Bool, true, false, _&&_, _||_}
+use mathlib.Core.List.{List, [], _∷_, List·Memᴰ·head}
 use Prim.Native.Nat.{ℕ, _≤_, _<_}
 use native.Mathlib.Omega.{arith}
 use borrow.Author.Tests.{lt-ltb, eq-eqb, ltb-true}
 use lib.Dec.{eqb, ltb}
-use lib.ListN.{length}
 use Rattle.numbers.specs.Numbers.{upto, every}
 use Rattle.numbers.specs.Bits.{bit, mask, within, disjoint}
 use Rattle.numbers.proofs.Cases.{both, same-test}
@@ -22,7 +21,7 @@ use Rattle.patterns.specs.Patterns.{mostVariables, mostConditions}
 use Rattle.patterns.specs.Checked.{conditionAt, InOrder}
 use Rattle.patterns.specs.Comparison.{holds}
 use Rattle.automaton.specs.Lists.{implies, all}
-use Rattle.automaton.specs.Automaton.{conditions, leaves, marked, carries}
+use Rattle.automaton.specs.Automaton.{leaves, marked, carries}
 use Rattle.automaton.proofs.Lists.{all-mem}
 use Rattle.automaton.proofs.All.{implies-of, implies-true, all-of, all-same, all-map, all-upto, implies-yes}
 use Rattle.rule.specs.Rule.{Binding, Reading, TimesNeverFall, behindEnd, recordIn, timeAt, binds, passes, inOrder, allowed, fires}

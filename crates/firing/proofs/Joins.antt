@@ -2,12 +2,12 @@
 -- binding, and all of them by the bits that are left of their mask. Assumes nothing.
 use mathlib.Core.Path.{_≡_, _∙_, refl, sym, ap, ap₂}
 use mathlib.Core.Bool.{Bool, true, false, not, _&&_}
-use mathlib.Core.List.{List, [], _∷_, List·Memᴰ}
-use Prim.Native.Nat.{ℕ, zero, suc, _+_, _-_, _*_, _^_, _≤_, _<_}
+use mathlib.Core.List.{List}
+use Prim.Native.Nat.{ℕ, _+_, _-_, _*_, _^_, _≤_, _<_}
 use native.Mathlib.Nat.{one-mul, lt-of-le-of-lt, sub-le}
 use native.Mathlib.Numerals.{add-one}
 use native.Mathlib.Omega.{arith}
-use borrow.Author.Tests.{eq-eqb, ne-eqb, eqb-true}
+use borrow.Author.Tests.{ne-eqb, eqb-true}
 use lib.Dec.{eqb}
 use lib.IntN.{pos}
 use Rattle.numbers.specs.Numbers.{every, oneIf}
@@ -18,7 +18,7 @@ use Rattle.numbers.proofs.Bits.{bit-high, bit-zero, bit-without, weight-in, wei
 use Rattle.records.specs.declared.Record.{Record}
 use Rattle.records.specs.Records.{recordAt}
 use Rattle.patterns.specs.declared.Condition.{Condition}
-use Rattle.patterns.specs.Patterns.{mostConditions, mostVariables}
+use Rattle.patterns.specs.Patterns.{mostConditions}
 use Rattle.patterns.specs.Comparison.{value, orderOf, meets, holds, raise}
 use Rattle.patterns.proofs.Comparison.{compared-value, raised-holds}
 use Rattle.automaton.specs.Lists.{implies, all}
@@ -26,7 +26,7 @@ use Rattle.automaton.proofs.Lists.{all-mem, clash}
 use Rattle.automaton.proofs.All.{implies-of, implies-true, all-of, all-same}
 use Rattle.rule.specs.Rule.{Binding, Reading}
 use Rattle.slots.specs.Slots.{bindingsIn, countIn, stateIn}
-use Rattle.firing.specs.Plan.{conditionIn, joinsIn, Sound}
+use Rattle.firing.specs.Plan.{conditionIn, joinsIn}
 use Rattle.firing.specs.Firing.{pairHolds, otherOf, sideOf, testedBy, pairMeets, joinHolds, joinsBy, Seated}
 use Rattle.firing.proofs.Slots.{bindingAt, binding-among}
 

@@ -1,8 +1,8 @@
 -- What stands at each place of a plan, and that the plan of a pattern in order can be followed. Assumes nothing.
 use mathlib.Core.Path.{_≡_, _∙_, sym, ap, ap₂}
-use mathlib.Core.Bool.{Bool, true, false, not, _&&_}
+use mathlib.Core.Bool.{true, not}
 use mathlib.Core.List.{List}
-use Prim.Native.Nat.{ℕ, _+_, _-_, _*_, _/_, _%_, _^_, _≤_, _<_}
+use Prim.Native.Nat.{ℕ, _+_, _-_, _/_, _%_, _^_, _≤_, _<_}
 use native.Mathlib.Nat.{le-refl, lt-of-lt-of-le, not-suc-le-zero}
 use native.Mathlib.Omega.{arith}
 use borrow.Author.Tests.{lt-ltb, le-ltb, ltb-true, eqb-false, not-true}
@@ -10,13 +10,13 @@ use lib.Dec.{eqb, ltb}
 use lib.ListN.{length, getD, set}
 use lib.Pow.{pow-mono}
 use Rattle.numbers.specs.Numbers.{field, every}
-use Rattle.numbers.specs.Bits.{bit, mask}
+use Rattle.numbers.specs.Bits.{bit}
 use Rattle.numbers.proofs.Cases.{by-order, both}
 use Rattle.numbers.proofs.Every.{every-same}
 use Rattle.numbers.proofs.Bits.{mask-bound, mask-bit, mask-same}
 use Rattle.patterns.specs.declared.Condition.{Condition}
 use Rattle.patterns.specs.declared.Pattern.{Pattern}
-use Rattle.patterns.specs.Patterns.{mostVariables, mostConditions, lastAttribute, lastOperator, conditionOf}
+use Rattle.patterns.specs.Patterns.{mostVariables, mostConditions, conditionOf}
 use Rattle.patterns.specs.Checked.{conditionAt, InOrder}
 use Rattle.patterns.proofs.Filled.{filled-at, filled-more, filled-length}
 use Rattle.firing.specs.Plan.{planRoom, firstMask, firstJoins, firstClass, othersPlace, typePlaces, maskPlace, wordOf, joins, isJoin, isOther, variableMask, joinMask, classHolds, classMask, otherMask, placeOf, planUpTo, planOf, conditionIn, beforeIn, afterIn, marksIn, joinsIn, classIn, othersIn, Placed, IsPlan, Sound, Classed}
@@ -58,10 +58,6 @@ module _ (k : Condition) (o : Packs k) where
       (omega arith)
       (omega arith)
       (omega arith)
-
-  pub word-bound : wordOf k < 2 ^ 64
-  unfolding wordOf
-  word-bound = omega arith
 
 pub condition-variable : (word : ℕ) → conditionOf word .variable < 16
 unfolding conditionOf

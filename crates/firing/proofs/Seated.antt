@@ -1,7 +1,7 @@
 -- A slot that holds a reading below record i is one that the tests can look at. Assumes nothing.
-use mathlib.Core.Path.{_≡_, _∙_, refl, sym, ap, subst}
-use mathlib.Core.Bool.{Bool, true, false, _||_, or-true}
-use mathlib.Core.List.{List, [], _∷_, List·Memᴰ, List·Memᴰ·head, List·Memᴰ·tail}
+use mathlib.Core.Path.{_≡_, _∙_, sym, ap, subst}
+use mathlib.Core.Bool.{Bool, true, _||_, or-true}
+use mathlib.Core.List.{List, List·Memᴰ, List·Memᴰ·head, List·Memᴰ·tail}
 use Prim.Native.Nat.{ℕ, _+_, _*_, _≤_, _<_}
 use native.Mathlib.Omega.{arith}
 use borrow.Author.Tests.{eq-eqb}
@@ -15,7 +15,7 @@ use Rattle.patterns.specs.Patterns.{mostVariables}
 use Rattle.patterns.specs.Checked.{InOrder}
 use Rattle.rule.specs.Rule.{Binding, Reading, binds}
 use Rattle.rule.specs.Promises.{mostBindings}
-use Rattle.slots.specs.Slots.{Held, slotBytes, countIn, stateIn, bindingsIn, heldIn, holding}
+use Rattle.slots.specs.Slots.{Held, slotBytes, countIn, heldIn, holding}
 use Rattle.firing.specs.Plan.{IsPlan}
 use Rattle.firing.specs.Firing.{ReadBelow, Seated, Fit}
 use Rattle.firing.proofs.Plans.{sound-plan}

@@ -1,9 +1,9 @@
 -- What a held reading decides, case by case: whether a variable leaves its state, and the order mark. Assumes nothing.
 use Rattle.automaton.proofs.All.{implies-yes}
-use mathlib.Core.Path.{_≡_, _∙_, refl, ap}
-use mathlib.Core.Bool.{Bool, true, false}
-use mathlib.Core.List.{List, [], _∷_, List·Memᴰ, List·Memᴰ·head, List·Memᴰ·tail}
-use Prim.Native.Nat.{ℕ, zero, suc, _+_, _-_, _*_, _^_, _/_, _%_, _≤_, _<_}
+use mathlib.Core.Path.{_≡_, _∙_, ap}
+use mathlib.Core.Bool.{true, false}
+use mathlib.Core.List.{List, List·Memᴰ, List·Memᴰ·head, List·Memᴰ·tail}
+use Prim.Native.Nat.{ℕ, zero, suc, _+_, _-_, _*_, _≤_, _<_}
 use native.Mathlib.Nat.{not-suc-le-zero}
 use native.Mathlib.Omega.{arith}
 use lib.Dec.{ltb}
@@ -12,10 +12,10 @@ use Rattle.numbers.specs.Bits.{bit, within, disjoint}
 use Rattle.numbers.proofs.Cases.{by-order}
 use Rattle.records.specs.Records.{recordAt}
 use Rattle.automaton.specs.Lists.{implies}
-use Rattle.rule.specs.Rule.{Binding, Reading}
-use Rattle.slots.specs.Slots.{Held, bindingOf, bindingsIn, countIn, stateIn, heldIn}
+use Rattle.rule.specs.Rule.{Binding}
+use Rattle.slots.specs.Slots.{bindingOf, bindingsIn, countIn, stateIn, heldIn}
 use Rattle.firing.specs.Plan.{beforeIn, afterIn, marksIn}
-use Rattle.firing.specs.Firing.{leavesBy, laterThan, laterBy, joinsBy, firesBy}
+use Rattle.firing.specs.Firing.{leavesBy, laterThan, laterBy}
 
 module _ (plan : List ℕ) (state v : ℕ) where
   pub leaves-loop : bit state v ≡ true → leavesBy plan state v ≡ disjoint state (afterIn plan v)

@@ -4,7 +4,7 @@ use mathlib.Core.Path.{_≡_, _∙_, refl, sym, ap, ap₂}
 use mathlib.Core.Bool.{Bool, true, false, not, _&&_, _||_, true≢false, or-false}
 use Prim.Native.Nat.{ℕ, _≤_, _<_}
 use native.Mathlib.Omega.{arith}
-use borrow.Author.Tests.{lt-ltb, le-ltb, lt-leb, eq-eqb, ltb-true, leb-false, not-true}
+use borrow.Author.Tests.{lt-ltb, lt-leb, eq-eqb, ltb-true, leb-false, not-true}
 use lib.Dec.{eqb, ltb, leb}
 use Rattle.numbers.specs.Bits.{bit, mask, within, disjoint}
 use Rattle.numbers.specs.Numbers.{every}

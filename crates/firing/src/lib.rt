@@ -1,16 +1,15 @@
 // Whether a step fires, in the parts that a pass settles one by one: a plan with the conditions on class once a call, the
 // new event's other own conditions once a record, the rest once a reading.
 ghost use mathlib.Core.Path.{_≡_};
-ghost use mathlib.Core.Bool.{Bool, true, false, _||_};
-ghost use Prim.Native.Nat.{ℕ, _+_, _-_, _*_, _/_, _%_, _^_, _<_, _≤_};
+ghost use mathlib.Core.Bool.{true, false, _||_};
+ghost use Prim.Native.Nat.{_+_, _-_, _*_, _/_, _%_, _^_, _<_, _≤_};
 ghost use lib.Dec.{eqb};
 ghost use lib.ListN.{length};
-ghost use Rattle.numbers.specs.Numbers.{number, oneIf};
-ghost use Rattle.numbers.specs.Bits.{bit};
+ghost use Rattle.numbers.specs.Numbers.{number};
 ghost use Rattle.records.specs.Records.{recordBytes, recordAt};
 ghost use Rattle.patterns.specs.Patterns.{mostVariables, mostConditions, lastOperator, conditionOf};
 ghost use Rattle.patterns.specs.Checked.{InOrder, conditionAt};
-ghost use Rattle.patterns.specs.Comparison.{value, raise, holds};
+ghost use Rattle.patterns.specs.Comparison.{value, raise};
 ghost use Rattle.slots.specs.Slots.{bindingOf, bindingsIn, countIn, heldIn};
 ghost use Rattle.firing.specs.Plan.{planRoom, joins, standing, variableMask, joinMask, onClass, otherOwn, sampleOf, typePlaces, classMask, otherMask, IsWord, Placed, IsPlan, Sound, Classed};
 ghost use Rattle.firing.specs.Firing.{settled, settledOnClass, canBy, leavesBy, laterBy, sideOf, testedBy, pairMeets, joinsBy, agreesBy, Fit};

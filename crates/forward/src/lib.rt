@@ -1,8 +1,8 @@
 // The forward pass: one pass over the records, with the live readings in lent working memory.
 ghost use mathlib.Core.Path.{_≡_};
-ghost use mathlib.Core.Bool.{Bool, true, false, not};
-ghost use mathlib.Core.List.{List, [], _∷_, _++_};
-ghost use Prim.Native.Nat.{ℕ, _+_, _-_, _*_, _^_, _≤_, _<_, max};
+ghost use mathlib.Core.Bool.{true, false};
+ghost use mathlib.Core.List.{[], _∷_};
+ghost use Prim.Native.Nat.{_+_, _-_, _*_, _^_, _≤_, _<_, max};
 ghost use lib.ListN.{length, replicate};
 ghost use Rattle.numbers.specs.Numbers.{first};
 ghost use Rattle.records.specs.Records.{recordBytes};
@@ -10,13 +10,13 @@ ghost use Rattle.patterns.specs.Patterns.{mostVariables, mostConditions};
 ghost use Rattle.rule.specs.Rule.{startOf};
 ghost use Rattle.rule.specs.Lists.{line};
 ghost use Rattle.rule.specs.Calls.{ForwardCall};
-ghost use Rattle.slots.specs.Slots.{Held, slotBytes, slotAt, slotsAt, heldIn, countIn, grow};
+ghost use Rattle.slots.specs.Slots.{slotBytes, slotAt, slotsAt, heldIn, countIn, grow};
 ghost use Rattle.firing.specs.Plan.{Sound, Classed};
 ghost use Rattle.firing.specs.Firing.{Fit};
 ghost use Rattle.forward.specs.Flags.{isSet};
 ghost use Rattle.forward.specs.Live.{oneBy, firedBy, extendBy, firstBy, begunBy, stepBy, isLong, long, isEventBy, markBy, canAt, linesBy, isLate};
-ghost use Rattle.forward.specs.Memory.{Standing, Outside, Apart, Added, Ready, Begun, firstInTime, goneBy, Stands, Moved};
-ghost use Rattle.forward.specs.Lines.{Told, Wrote};
+ghost use Rattle.forward.specs.Memory.{Apart, Added, Ready, Begun, firstInTime, goneBy, Stands, Moved};
+ghost use Rattle.forward.specs.Lines.{Wrote};
 ghost use Rattle.forward.specs.Passes.{Prepared, Ran, Finished, limitBroken};
 use patterns::Pattern;
 use records::Answer;

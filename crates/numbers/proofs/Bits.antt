@@ -1,18 +1,17 @@
 -- The bits of a number, numbers made of bits, and the bits of bitAnd and bitOr. Assumes nothing.
 use mathlib.Core.Path.{_≡_, _∙_, refl, sym, ap, ap₂, subst}
-use mathlib.Core.Bool.{Bool, true, false, not, _&&_, _||_, true≢false, or-comm, and-false}
+use mathlib.Core.Bool.{Bool, true, false, not, _&&_, _||_, or-comm, and-false}
 use Prim.Native.Nat.{ℕ, zero, suc, _+_, _-_, _*_, _/_, _%_, _^_, _≤_, _<_, zero-le}
 use native.Mathlib.Nat.{add-comm, div-eq-of-lt, div-div-eq-div-mul, div-mul-le-self, div-one, le-refl, le-trans, lt-of-le-of-lt, lt-of-lt-of-le, mod-eq-of-lt, mod-le, mod-lt, mod-one, mul-div-cancel, mul-le-mul-right, mul-mod-left, not-suc-le-zero, le-of-suc-le-suc, pow-suc, pow-succ', zero-lt-suc}
 use native.Mathlib.Numerals.{add-one, one-add}
 use native.Mathlib.Omega.{arith}
-use borrow.Author.Tests.{eq-eqb, ne-eqb, eqb-true, lt-ltb, le-ltb, not-true}
+use borrow.Author.Tests.{eq-eqb, ne-eqb, eqb-true, lt-ltb, le-ltb}
 use lib.Bits.{bitAnd, bitOr, and-shr, and-mod, and-le-l, or-shr, or-mod, or-lt, block-half, block-odd}
 use lib.Dec.{eqb, ltb, eqb·zero-suc, eqb·suc-zero, eqb·suc-suc}
 use lib.Pow.{high, mod-pow-add, pow-lt, pow-mono, pow-pos}
-use Rattle.numbers.specs.Numbers.{oneIf, every}
+use Rattle.numbers.specs.Numbers.{oneIf}
 use Rattle.numbers.specs.Bits.{bit, mask, within, disjoint}
-use Rattle.numbers.proofs.Cases.{by-order, both, same-test}
-use Rattle.numbers.proofs.Every.{every-true, every-of}
+use Rattle.numbers.proofs.Cases.{by-order, both}
 
 two-pos : 0 < 2
 two-pos = zero-lt-suc 1
@@ -274,33 +273,3 @@ module _ (f : ℕ → Bool) (s n : ℕ) where
 
   pub disjoint-mask-of : ((v : ℕ) → v < n → f v ≡ true → bit s v ≡ false) → disjoint (mask f n) s ≡ true
   disjoint-mask-of g = disjoint-of (mask f n) s n (mask-bound f n) (λ v l h. g v l (sym (mask-inside f n v l) ∙ h))
-
--- the same as equations: each is a test of every bit below n
-
-implied : (s t : Bool) → not s || t ≡ true → s ≡ true → t ≡ true
-implied true t e h = e
-implied false t e h = absurd (true≢false (sym h))
-
-implied-of : (s t : Bool) → (s ≡ true → t ≡ true) → not s || t ≡ true
-implied-of true t f = f refl
-implied-of false t f = refl
-
-excluded : (s t : Bool) → not (s && t) ≡ true → s ≡ true → t ≡ false
-excluded true t e h = not-true t e
-excluded false t e h = absurd (true≢false (sym h))
-
-excluded-of : (s t : Bool) → (s ≡ true → t ≡ false) → not (s && t) ≡ true
-excluded-of s t f = ap not (and-none s t f)
-
-module _ (a b n : ℕ) (h : a < 2 ^ n) where
-  pub within-every : within a b ≡ every (λ v. not (bit a v) || bit b v) n
-  within-every =
-      same-test (within a b) (every (λ v. not (bit a v) || bit b v) n)
-      (λ e. every-of (λ v. not (bit a v) || bit b v) n (λ v l. implied-of (bit a v) (bit b v) (within-true a b e v)))
-      (λ e. within-of a b n h (λ v l. implied (bit a v) (bit b v) (every-true (λ v. not (bit a v) || bit b v) n e v l)))
-
-  pub disjoint-every : disjoint a b ≡ every (λ v. not (bit a v && bit b v)) n
-  disjoint-every =
-      same-test (disjoint a b) (every (λ v. not (bit a v && bit b v)) n)
-      (λ e. every-of (λ v. not (bit a v && bit b v)) n (λ v l. excluded-of (bit a v) (bit b v) (disjoint-true a b e v)))
-      (λ e. disjoint-of a b n h (λ v l. excluded (bit a v) (bit b v) (every-true (λ v. not (bit a v && bit b v)) n e v l)))

@@ -1,6 +1,6 @@
 -- The count of a number's trailing zeros is its lowest bit. Assumes nothing.
 use mathlib.Core.Path.{_≡_, _∙_, refl, ap, subst}
-use mathlib.Core.Bool.{true, false}
+use mathlib.Core.Bool.{false}
 use Prim.Native.Nat.{ℕ, zero, suc, _/_, _%_, _^_, _<_}
 use native.Mathlib.Nat.{not-suc-le-zero, zero-lt-suc, div-lt-iff-lt-mul, pow-suc}
 use native.Mathlib.Omega.{arith}

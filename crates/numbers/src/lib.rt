@@ -1,6 +1,6 @@
 // Bytes read as numbers, and the bits of numbers.
 ghost use mathlib.Core.Path.{_≡_};
-ghost use Prim.Native.Nat.{ℕ, _+_, _-_, _*_, _^_, _<_, _≤_};
+ghost use Prim.Native.Nat.{_+_, _-_, _*_, _^_, _<_, _≤_};
 ghost use lib.ListN.{length, getD, replicate};
 ghost use lib.Bits.{bitOr};
 ghost use Rattle.numbers.specs.Numbers.{number, oneIf};

@@ -2,7 +2,6 @@
 // result, and its left-over byte where there is one; of the forward pass how many bytes of working memory are not 0 before
 // the call, and how many after it.
 ghost use Prim.Native.Nat.{_≤_};
-ghost use lib.ListN.{length};
 use records::Answer;
 
 // What a byte of lent memory is before the call.

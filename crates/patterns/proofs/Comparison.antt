@@ -62,27 +62,6 @@ order-bound a b =
     (λ e. omega (arith, equal-order a b e))
     (λ g. omega (arith, greater-order a b g))
 
-pub order-less : (a b : ℤ) → orderOf a b ≡ less → ltZ a b ≡ true
-order-less a b o =
-    by-comparison a b
-    (λ l. l)
-    (λ e. absurd (omega (arith, equal-order a b e)))
-    (λ g. absurd (omega (arith, greater-order a b g)))
-
-pub order-equal : (a b : ℤ) → orderOf a b ≡ equal → a ≡ b
-order-equal a b o =
-    by-comparison a b
-    (λ l. absurd (omega (arith, less-order a b l)))
-    (λ e. e)
-    (λ g. absurd (omega (arith, greater-order a b g)))
-
-pub order-greater : (a b : ℤ) → orderOf a b ≡ greater → ltZ b a ≡ true
-order-greater a b o =
-    by-comparison a b
-    (λ l. absurd (omega (arith, less-order a b l)))
-    (λ e. absurd (omega (arith, equal-order a b e)))
-    (λ g. g)
-
 -- ## Raising
 
 -- a whole number from -2^31 on

@@ -14,8 +14,8 @@ use Rattle.numbers.proofs.Count.{count-ext}
 use Rattle.numbers.proofs.First.{first-fails}
 use Rattle.patterns.specs.declared.Checked.{Checked}
 use Rattle.patterns.specs.declared.Condition.{Condition}
-use Rattle.patterns.specs.Patterns.{headerBytes, mostVariables, mostConditions, mostSets, mostInSet, lastAttribute, lastOperator, headerBroken, variableCount, conditionCount, setNumber, groupFlag, members, leastSet, greatestSet, variableBroken, conditionOf, conditionWord, conditionZero, conditionBroken, formBroken}
-use Rattle.patterns.specs.Checked.{patternUpTo, patternOf, refused, firstBadVariable, firstBadCondition, patternAnswer, conditionAt, setOf, isGroup, InOrder}
+use Rattle.patterns.specs.Patterns.{headerBytes, mostVariables, mostConditions, mostSets, mostInSet, lastAttribute, lastOperator, headerBroken, variableCount, conditionCount, setNumber, members, leastSet, greatestSet, variableBroken, conditionOf, conditionWord, conditionZero, conditionBroken, formBroken}
+use Rattle.patterns.specs.Checked.{patternUpTo, patternOf, refused, firstBadVariable, firstBadCondition, patternAnswer, conditionAt, setOf, InOrder}
 use Rattle.patterns.proofs.Filled.{filled-at}
 use Rattle.patterns.proofs.Answers.{header-in-order, wholeLength, answer-short, answer-header, answer-length, answer-variable, answer-condition, answer-pattern}
 
@@ -121,17 +121,9 @@ module _ (bytes : List ℕ) where
   unfolding patternOf patternUpTo
   count-of = refl
 
-  pub conditions-of : patternOf bytes .c ≡ conditionCount bytes
-  unfolding patternOf patternUpTo
-  conditions-of = refl
-
   pub set-of : (v : ℕ) → v < variableCount bytes → setOf (patternOf bytes) v ≡ setNumber bytes v
   unfolding patternOf patternUpTo
   set-of v h = filled-at mostVariables 0 (setNumber bytes) (variableCount bytes) v 0 h
-
-  pub group-of : (v : ℕ) → v < variableCount bytes → isGroup (patternOf bytes) v ≡ groupFlag bytes v
-  unfolding patternOf patternUpTo
-  group-of v h = filled-at mostVariables false (groupFlag bytes) (variableCount bytes) v false h
 
   pub condition-of : (i : ℕ) → i < conditionCount bytes → conditionAt (patternOf bytes) i ≡ conditionOf (conditionWord bytes i)
   unfolding patternOf patternUpTo conditionAt

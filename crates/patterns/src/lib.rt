@@ -1,9 +1,8 @@
 // What the bytes of a pattern mean, the check of a pattern, and when a condition holds.
 ghost use mathlib.Core.Path.{_≡_};
-ghost use mathlib.Core.Bool.{Bool};
-ghost use Prim.Native.Nat.{ℕ, _+_, _*_, _<_, _≤_};
+ghost use Prim.Native.Nat.{_+_, _*_, _<_, _≤_};
 ghost use lib.Dec.{eqb};
-ghost use lib.IntN.{ℤ, pos};
+ghost use lib.IntN.{pos};
 ghost use lib.ListN.{length};
 ghost use Rattle.numbers.specs.Numbers.{oneIf, first};
 ghost use Rattle.patterns.specs.Patterns.{headerBytes, mostVariables, mostConditions, conditionBytes, header, headerBroken, variableCount, conditionCount, setNumber, groupFlag, members, leastSet, greatestSet, variableBroken, conditionOf, conditionWord, conditionBroken, formBroken};

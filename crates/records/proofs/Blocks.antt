@@ -1,15 +1,14 @@
 -- What the check of a block answers, case by case; it accepts exactly the blocks in order. Assumes nothing.
 use mathlib.Core.Path.{_≡_, _∙_, refl, sym, ap, subst}
-use mathlib.Core.Bool.{Bool, true, false, not, _&&_, _||_, true≢false}
+use mathlib.Core.Bool.{true, false, true≢false}
 use mathlib.Core.List.{List}
-use Prim.Native.Nat.{ℕ, zero, suc, _-_, _/_, _%_, _≤_, _<_}
+use Prim.Native.Nat.{ℕ, zero, suc, _-_, _%_, _≤_, _<_}
 use native.Mathlib.Numerals.{unary-clauses}
 use native.Mathlib.Omega.{arith}
-use borrow.Author.Tests.{lt-ltb, le-ltb, le-leb, lt-leb, eq-eqb, ne-eqb, ltb-true, ltb-false, eqb-true, eqb-false, leb-true, leb-false}
-use lib.Dec.{eqb, ltb, leb}
+use borrow.Author.Tests.{lt-ltb, le-ltb, le-leb, lt-leb, eq-eqb, ne-eqb, ltb-true, ltb-false, eqb-true, eqb-false}
+use lib.Dec.{eqb}
 use lib.ListN.{length}
 use Rattle.records.specs.declared.Answer.{Answer}
-use Rattle.numbers.specs.Numbers.{first}
 use Rattle.records.specs.Records.{recordBytes, recordAt, recordCount}
 use Rattle.records.specs.Blocks.{mostRecords, refused, misfit, broken, late, recordRefusal, bad, firstBad, blockAnswer, InOrder}
 use Rattle.numbers.proofs.Cases.{by-test, by-order}

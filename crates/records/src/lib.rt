@@ -1,9 +1,9 @@
 // What the bytes of a block mean, and the check of a block.
 ghost use mathlib.Core.Path.{_≡_};
-ghost use mathlib.Core.Bool.{Bool, true, false};
-ghost use Prim.Native.Nat.{ℕ, _+_, _*_, _<_, _≤_};
+ghost use mathlib.Core.Bool.{true, false};
+ghost use Prim.Native.Nat.{_+_, _*_, _<_, _≤_};
 ghost use lib.ListN.{length};
-ghost use Rattle.records.specs.Records.{recordBytes, recordAt, recordCount, classOf};
+ghost use Rattle.records.specs.Records.{recordBytes, recordAt, classOf};
 ghost use Rattle.records.specs.Blocks.{broken, recordRefusal, blockAnswer, refused};
 
 const RECORD_BYTES: usize = 16;

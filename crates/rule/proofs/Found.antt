@@ -2,16 +2,15 @@
 -- what their findings come to. Assumes nothing.
 use mathlib.Core.Path.{_≡_, refl, sym, ap, _∙_}
 use mathlib.Core.Bool.{Bool, true, false, not, _&&_}
-use mathlib.Core.List.{List, [], _∷_, _++_, append-nil, append-assoc, List·Memᴰ}
+use mathlib.Core.List.{List, [], _∷_, _++_, append-assoc, List·Memᴰ}
 use Prim.Native.Nat.{ℕ, zero, suc, _+_, _-_, _≤_, _<_, min}
 use native.Mathlib.Omega.{arith}
-use lib.ListN.{length, length-append}
+use lib.ListN.{length}
 use lib.Dec.{ltb}
 use borrow.Author.Tests.{ltb-true, lt-ltb, le-ltb}
 use Rattle.numbers.specs.Numbers.{upto, first}
 use Rattle.numbers.proofs.Cases.{by-test, by-order, neither, not-not}
 use Rattle.numbers.proofs.First.{first-bound, first-at, first-none, first-fails, first-passes}
-use Rattle.numbers.proofs.Upto.{upto-snoc}
 use Rattle.patterns.specs.declared.Pattern.{Pattern}
 use Rattle.automaton.specs.Lists.{keep, filter, collect}
 use Rattle.automaton.specs.Automaton.{variablesOf}
@@ -21,8 +20,7 @@ use Rattle.rule.specs.Promises.{mostBindings}
 use Rattle.rule.specs.Lists.{isEvent, only}
 use Rattle.rule.specs.Starts.Found.{closed, over}
 use Rattle.rule.specs.Starts.{Found, isPast, closesAt, until, markAt, markOf, anyFires, inTurn, close, skipFound, skipUntil, branchUntil, NextFire, startFound, foundFrom, foundAll, linesOf, leastOver}
-use Rattle.rule.proofs.Lists.{any-mem, mem-any, collect-append}
-use Rattle.rule.proofs.Pack.{length-pack-bindings}
+use Rattle.rule.proofs.Lists.{any-mem, mem-any}
 use Rattle.rule.proofs.Heart.{fires-variable, event-yes}
 use Rattle.rule.proofs.Report.{event-in}
 
@@ -103,15 +101,6 @@ module _ (B : Block) where
   pub mark-end : (p : Pattern) → markAt B (length B) ≡ endMark
   unfolding markAt
   mark-end p = by-test (isEvent B (length B)) (λ v. absurd (omega (arith, event-in p B (length B) (event-yes p B (length B) v)))) (λ v. rw (v, le-ltb (length B) (length B) (omega arith), markAt))
-
-  pub mark-bound : (j : ℕ) → markAt B j ≤ gapMark
-  unfolding markAt
-  mark-bound j = go (isEvent B j) (ltb j (length B))
-    where
-      go : (s t : Bool) → (elim s [ true ↦ pastMark | false ↦ elim t [ true ↦ gapMark | false ↦ endMark ] ]) ≤ gapMark
-      go true t = omega arith
-      go false true = omega arith
-      go false false = omega arith
 
 -- ## Whether some step fires
 
@@ -245,11 +234,6 @@ module _ (p : Pattern) (B : Block) where
   unfolding foundFrom upto collect
   found-first i m h = rw (one-more m i h)
 
-  -- first the others, then the start at the last record
-  pub found-last : (i n : ℕ) → foundFrom p B i (suc n) ≡ foundFrom p B i n ++ startFound p B (i + n)
-  unfolding foundFrom collect
-  found-last i n = ap (collect (startFound p B)) (upto-snoc i n) ∙ collect-append (startFound p B) (upto i n) ((i + n) ∷ []) ∙ ap (λ t. foundFrom p B i n ++ t) (append-nil (startFound p B (i + n)))
-
 -- ## What they come to
 
 pub lines-append : (l m : List Found) → linesOf (l ++ m) ≡ linesOf l ++ linesOf m
@@ -261,17 +245,6 @@ lines-append (over j ∷ l) m = lines-append l m
 pub pack-append : (l m : List Line) → pack (l ++ m) ≡ pack l ++ pack m
 pack-append [] m = refl
 pack-append (x ∷ l) m = ap (λ t. packed (x .mark) (length (x .reading)) ∷ t) (ap (λ t. packBindings (x .reading) ++ t) (pack-append l m) ∙ sym (append-assoc (packBindings (x .reading)) (pack l) (pack m)))
-
--- how many readings and numbers
-pub readings-append : (l m : List Found) → length (linesOf (l ++ m)) ≡ length (linesOf l) + length (linesOf m)
-readings-append l m = ap length (lines-append l m) ∙ length-append (linesOf l) (linesOf m)
-
-pub numbers-append : (l m : List Found) → length (pack (linesOf (l ++ m))) ≡ length (pack (linesOf l)) + length (pack (linesOf m))
-numbers-append l m = ap (λ t. length (pack t)) (lines-append l m) ∙ ap length (pack-append (linesOf l) (linesOf m)) ∙ length-append (pack (linesOf l)) (pack (linesOf m))
-
-pub numbers-closed : (mark : ℕ) (r : Reading) → length (pack (linesOf (closed mark r ∷ []))) ≡ suc (length r)
-unfolding linesOf
-numbers-closed mark r = simp length-append (omega (arith, length-pack-bindings r))
 
 -- what stands for none may be looked at first or last
 pub least-none : (a b : ℕ) (l : List Found) → leastOver (min a b) l ≡ min a (leastOver b l)

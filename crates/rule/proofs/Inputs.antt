@@ -2,7 +2,6 @@
 -- the check of pattern and block accepts exactly what is in order, or gives a refusal from 1 to 7 with all counts 0.
 -- Assumes nothing.
 use mathlib.Core.Path.{_≡_, refl, sym, ap, subst, _∙_}
-use mathlib.Core.Logic.{_⊎_, inl, inr}
 use mathlib.Core.Bool.{false}
 use mathlib.Core.List.{List}
 use Prim.Native.Nat.{ℕ, zero, suc, _≤_, _<_}
@@ -10,11 +9,11 @@ use native.Mathlib.Omega.{arith}
 use native.Mathlib.Decide.{ℕ-discrete}
 use lib.Dec.{eqb}
 use lib.ListN.{length}
-use borrow.Author.Tests.{lt-ltb, le-ltb, ltb-false, eqb-true, eqb-false, eq-eqb, ne-eqb}
-use Rattle.numbers.proofs.Cases.{by-test, by-order, neither}
+use borrow.Author.Tests.{lt-ltb, le-ltb, eqb-true, eqb-false, eq-eqb, ne-eqb}
+use Rattle.numbers.proofs.Cases.{by-test, by-order}
 use Rattle.records.specs.declared.Answer.{Answer}
 use Rattle.records.specs.declared.Record.{Record}
-use Rattle.records.specs.Records.{recordAt, recordCount, gapKind}
+use Rattle.records.specs.Records.{recordAt, recordCount}
 use Rattle.records.specs.Blocks.{refused, mostRecords, misfit, broken, late, recordRefusal, firstBad, blockAnswer, InOrder}
 use Rattle.records.proofs.Listed.{length-records, record-listed}
 use Rattle.records.proofs.Blocks.{refusal-6, refusal-7, refusal-none, answer-misfit, accepted-in-order as block-accepted, in-order-accepted}
@@ -23,7 +22,7 @@ use Rattle.patterns.specs.Patterns.{headerBytes, headerBroken, variableCount, c
 use Rattle.patterns.specs.Checked.{patternAnswer, firstBadVariable, firstBadCondition, InOrder as PatternInOrder}
 use Rattle.patterns.proofs.InOrder.{accepted-in-order as pattern-accepted}
 use Rattle.patterns.proofs.Answers.{wholeLength, answer-short, answer-header, answer-length, answer-variable, answer-condition, answer-pattern}
-use Rattle.rule.specs.Rule.{Event, recordIn, timeAt, TimesNeverFall, behindEnd}
+use Rattle.rule.specs.Rule.{recordIn, timeAt, TimesNeverFall, behindEnd}
 use Rattle.rule.specs.Calls.{inputAnswer, patternIn, blockIn}
 
 -- ## The block
@@ -58,17 +57,6 @@ module _ (bytes : List ℕ) where
         go : Dec (i ≡ j) → timeAt (blockIn bytes) i ≤ timeAt (blockIn bytes) j
         go (yes e) = omega (arith, ap (timeAt (blockIn bytes)) e)
         go (no n) = omega (arith, times-rise i j (omega arith) h)
-
-    kind-most : (i : ℕ) → i < length (blockIn bytes) → recordIn (blockIn bytes) i .kind ≤ gapKind
-    unfolding broken
-    kind-most i h =
-        let c = block-length in
-        let e = ap (λ (r : Record). r .kind) (block-record i (omega arith)) in
-        omega (arith, ltb-false gapKind (recordAt bytes i .kind) (neither _ _ (ordered .sound i (omega arith)) .0))
-
-    -- kind: 0 event, 1 gap
-    pub event-or-gap : (i : ℕ) → i < length (blockIn bytes) → Event (blockIn bytes) i ⊎ (recordIn (blockIn bytes) i .kind ≡ gapKind)
-    event-or-gap i h = by-order (recordIn (blockIn bytes) i .kind) gapKind (λ l. inl (omega arith)) (λ l. inr (omega (arith, kind-most i h)))
 
     -- A block has 0 to 4,096 records.
     pub few-records : length (blockIn bytes) ≤ mostRecords

@@ -3,7 +3,6 @@
 use mathlib.Core.Path.{_≡_, refl, sym, ap, subst, _∙_}
 use mathlib.Core.Bool.{true, false}
 use mathlib.Core.List.{List, [], _∷_, List·Memᴰ, List·Memᴰ·head, List·Memᴰ·tail, List·Memᴰ·eq-of-singleton}
-use mathlib.Core.Logic.{_↔_}
 use Prim.Native.Nat.{ℕ, zero, suc, _+_, _-_, _≤_, _<_, min}
 use native.Mathlib.Omega.{arith}
 use lib.ListN.{length}
@@ -154,9 +153,6 @@ module _ (p : Pattern) (B : Block) where
 
   pub long-over : TimesNeverFall B → (j : ℕ) → TooLong p B j → List·Memᴰ (over j) (foundAll p B)
   long-over mono j t = subst (λ k. List·Memᴰ (over k) (foundAll p B)) (t .ends) (long-found (t .reading) (partial-of p B mono (t .reading) (t .reads)) (t .long))
-
-  pub over-is : TimesNeverFall B → (j : ℕ) → List·Memᴰ (over j) (foundAll p B) ↔ TooLong p B j
-  over-is mono j = (over-long j, long-over mono j)
 
 -- ## The least such record
 

@@ -1,5 +1,5 @@
 -- The laws by which the start-by-start pass goes: what is reported of the readings that go on from r. Assumes nothing.
-use mathlib.Core.Path.{_≡_, refl, sym, ap, subst, subst₂, _∙_}
+use mathlib.Core.Path.{_≡_, refl, sym, ap, subst, _∙_}
 use mathlib.Core.Bool.{true}
 use mathlib.Core.List.{[], _∷_, _++_, append-nil, append-assoc}
 use Prim.Native.Nat.{ℕ, _<_}
@@ -8,10 +8,9 @@ use native.Mathlib.Decide.{decLt}
 use lib.ListN.{length}
 use lib.Seq.{append-snoc}
 use Rattle.patterns.specs.declared.Pattern.{Pattern}
-use Rattle.rule.specs.Rule.{Block, Binding, Reading, Line, Event, InWindow, Closes, gap, past, end, fires, startOf, oldestFirst, Smaller, here, Before, sooner, smaller}
+use Rattle.rule.specs.Rule.{Block, Binding, Reading, Line, Event, InWindow, Closes, gap, past, end, fires, startOf, oldestFirst}
 use Rattle.rule.specs.Steps.{Partial, Passed, Taken, Live, Reported}
 use Rattle.automaton.proofs.Lists.{clash}
-use Rattle.rule.proofs.Order.{smaller-left, smaller-right, smaller-front}
 use Rattle.rule.proofs.Report.{event-in}
 
 -- a list is empty or has an oldest binding
@@ -173,17 +172,3 @@ pub start-append : (t : Reading) (b : Binding) (r : Reading) → startOf (t ++ (
 start-append [] b r = refl
 start-append (x ∷ []) b r = refl
 start-append (x ∷ y ∷ t) b r = start-append (y ∷ t) b r
-
-pub branch-order : (p : Pattern) (B : Block) (r : Reading) (k v w : ℕ) (x y : Line) → v < w → From p B (record { variable = v; at = k } ∷ r) x → From p B (record { variable = w; at = k } ∷ r) y → Before (x .reading) (y .reading)
-branch-order p B r k v w x y h f g =
-    subst₂ Before (sym (f .goesOn)) (sym (g .goesOn))
-    (smaller (start-append (f .more) (record { variable = v; at = k }) r ∙ starts r ∙ sym (start-append (g .more) (record { variable = w; at = k }) r))
-    (subst₂ Smaller (sym (oldest-first-append (f .more) (record { variable = v; at = k } ∷ r))) (sym (oldest-first-append (g .more) (record { variable = w; at = k } ∷ r)))
-    (smaller-left (oldestFirst (f .more)) (smaller-right (oldestFirst (g .more)) (smaller-front (oldestFirst r) (here h))))))
-  where
-    starts : (r : Reading) → startOf (record { variable = v; at = k } ∷ r) ≡ startOf (record { variable = w; at = k } ∷ r)
-    starts [] = refl
-    starts (c ∷ r) = refl
-
-pub start-order : (p : Pattern) (B : Block) (a b : Binding) (x y : Line) → a .at < b .at → From p B (a ∷ []) x → From p B (b ∷ []) y → Before (x .reading) (y .reading)
-start-order p B a b x y h f g = sooner (omega (arith, ap startOf (f .goesOn), ap startOf (g .goesOn), start-append (f .more) a [], start-append (g .more) b []))

@@ -2,14 +2,13 @@
 -- Assumes nothing.
 use mathlib.Core.Path.{_≡_, refl, sym, ap, subst}
 use mathlib.Core.Logic.{_↔_}
-use mathlib.Core.Bool.{true, false}
 use mathlib.Core.List.{List, [], _∷_, _++_, nil≢cons}
 use Prim.Native.Nat.{ℕ, zero, suc, _+_, _≤_, _<_}
 use native.Mathlib.Nat.{not-suc-le-zero}
 use native.Mathlib.Omega.{arith}
 use lib.ListN.{length}
 use Rattle.patterns.specs.declared.Pattern.{Pattern}
-use Rattle.rule.specs.Rule.{Block, Binding, Reading, Event, InWindow, Line, Closes, Follows, PartialReading, LiveAfter, IsReported, Report, fires, lastOf, startOf, timeAt, TimesNeverFall}
+use Rattle.rule.specs.Rule.{Block, Binding, Reading, Event, Line, Closes, Follows, PartialReading, LiveAfter, IsReported, Report, lastOf, startOf, TimesNeverFall}
 use Rattle.rule.specs.Steps.{Partial, Live, Reported, IsReport}
 use Rattle.numbers.proofs.Cases.{by-order}
 use Rattle.rule.proofs.Order.{start-le}

@@ -1,16 +1,13 @@
 -- The reading rule, as a property of a list of bindings.
 -- A pattern is a checked one, a block a list of records, a reading a list of bindings, the LATEST first.
 use mathlib.Core.Path.{_≡_}
-use mathlib.Core.Logic.{_⊎_}
 use mathlib.Core.Bool.{Bool, true, false, _&&_, _||_}
 use mathlib.Core.List.{List, [], _∷_, _++_, map, List·Memᴰ}
-use Prim.Native.Nat.{ℕ, zero, suc, _+_, _-_, _*_, _^_, _≤_, _<_}
-use lib.ListN.{length, getD, replicate}
+use Prim.Native.Nat.{ℕ, suc, _+_, _*_, _^_, _≤_, _<_}
+use lib.ListN.{length, getD}
 use lib.Dec.{ltb, eqb}
-use Rattle.records.specs.declared.Answer.{Answer}
 use Rattle.records.specs.declared.Record.{Record}
 use Rattle.records.specs.Records.{eventKind, gapKind}
-use Rattle.records.specs.Blocks.{refused}
 use Rattle.patterns.specs.declared.Condition.{Condition}
 use Rattle.patterns.specs.declared.Pattern.{Pattern}
 use Rattle.patterns.specs.Comparison.{holds}

@@ -2,10 +2,10 @@
 use mathlib.Core.Path.{_≡_, ap, _∙_}
 use mathlib.Core.Bool.{_&&_}
 use mathlib.Core.List.{_∷_}
-use Prim.Native.Nat.{ℕ, _^_, _<_}
+use Prim.Native.Nat.{ℕ, _<_}
 use borrow.Author.Tests.{lt-ltb}
 use Rattle.numbers.specs.Bits.{bit}
-use Rattle.numbers.proofs.Bits.{mask-bit, mask-bound, mask-or-weight}
+use Rattle.numbers.proofs.Bits.{mask-bit, mask-or-weight}
 use Rattle.patterns.specs.Patterns.{mostVariables}
 use Rattle.rule.specs.Rule.{Reading, binds}
 use Rattle.slots.specs.Slots.{holding, grow}
@@ -21,7 +21,3 @@ holding-grow r i v h =
 pub holding-bit : (r : Reading) (v : ℕ) → v < mostVariables → bit (holding r .state) v ≡ binds r v
 unfolding holding
 holding-bit r v h = mask-bit (binds r) mostVariables v ∙ ap (λ t. t && binds r v) (lt-ltb v mostVariables h)
-
-pub holding-bound : (r : Reading) → holding r .state < 2 ^ mostVariables
-unfolding holding
-holding-bound r = mask-bound (binds r) mostVariables

@@ -14,7 +14,7 @@ use Rattle.rule.specs.Rule.{packed, packBindings}
 use Rattle.slots.specs.Slots.{Held, slotBytes, bindingOf, bindingsIn, countIn, heldIn, slotAt, slotsAt}
 use Rattle.numbers.specs.Numbers.{bytesOf}
 use Rattle.slots.specs.Results.{lineNumbers}
-use Rattle.slots.proofs.Results.{bytesOf-append, take-written, drop-written, written-part}
+use Rattle.slots.proofs.Results.{bytesOf-append, take-written, written-part}
 
 -- ---- the bindings of a slot
 
@@ -141,18 +141,11 @@ module _ (a b : List ℕ) where
   pub slotsAt-before : (low at n : ℕ) → take low a ≡ take low b → at + slotBytes * n ≤ low → slotsAt a at n ≡ slotsAt b at n
   slotsAt-before low at n e h = slotsAt-same a b at n (λ i z. slotAt-before low (at + slotBytes * i) e (omega arith))
 
-  pub slotsAt-after : (high at n : ℕ) → drop high a ≡ drop high b → high ≤ at → slotsAt a at n ≡ slotsAt b at n
-  slotsAt-after high at n e h = slotsAt-same a b at n (λ i z. slotAt-after high (at + slotBytes * i) e (omega arith))
-
 -- ---- a memory that was written
 
 module _ (memory : List ℕ) (place : ℕ) (bytes : List ℕ) (h : place ≤ length memory) where
   pub slotsAt-written-before : (at n : ℕ) → at + slotBytes * n ≤ place → slotsAt (written memory place bytes) at n ≡ slotsAt memory at n
   slotsAt-written-before at n k = slotsAt-before (written memory place bytes) memory place at n (take-written memory place bytes h place (omega arith)) k
-
-  pub slotsAt-written-after : (at n : ℕ) → place + length bytes ≤ at → slotsAt (written memory place bytes) at n ≡ slotsAt memory at n
-  slotsAt-written-after at n k =
-      slotsAt-after (written memory place bytes) memory (place + length bytes) at n (drop-written memory place bytes h (place + length bytes) (omega arith)) k
 
   pub slotAt-written : length bytes ≡ slotBytes → slotAt (written memory place bytes) place ≡ bytes
   slotAt-written n = ap (λ (k : ℕ). take k (drop place (written memory place bytes))) (sym n) ∙ written-part memory place bytes h

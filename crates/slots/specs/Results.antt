@@ -1,7 +1,7 @@
 -- What is written into a lent result, as bytes: two for each 16-bit number, high first.
-use mathlib.Core.List.{List, [], _∷_, _++_}
+use mathlib.Core.List.{List, [], _∷_}
 use Prim.Native.Nat.{ℕ, _+_, _*_}
-use lib.ListN.{length, take, drop}
+use lib.ListN.{length}
 use Rattle.rule.specs.Rule.{Reading, packed, packBindings}
 
 -- one reported reading: head, then its bindings

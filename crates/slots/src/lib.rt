@@ -1,8 +1,8 @@
 // Readings in lent memory.
 ghost use mathlib.Core.Path.{_≡_};
-ghost use mathlib.Core.List.{List, [], _∷_, _++_};
-ghost use Prim.Native.Nat.{ℕ, _+_, _-_, _*_, _^_, _/_, _%_, _≤_, _<_};
-ghost use lib.ListN.{length, take, drop, replicate};
+ghost use mathlib.Core.List.{[], _++_};
+ghost use Prim.Native.Nat.{_+_, _-_, _*_, _^_, _/_, _%_, _≤_, _<_};
+ghost use lib.ListN.{length, take, replicate};
 ghost use Rattle.numbers.specs.Numbers.{number, bytesOf, written};
 ghost use Rattle.slots.specs.Slots.{slotBytes, countIn, stateIn, heldIn, grow};
 ghost use Rattle.slots.specs.Results.{lineNumbers};

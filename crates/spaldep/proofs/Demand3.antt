@@ -6,11 +6,9 @@ use mathlib.Core.List.{List}
 use Prim.Native.Nat.{ℕ, _<_, _≤_, min}
 use native.Mathlib.Omega.{arith}
 use borrow.Author.Tests.{eq-eqb, ne-eqb}
-use lib.ListN.{length}
 use Rattle.records.specs.declared.Answer.{Answer}
 use Rattle.records.specs.Blocks.{refused}
-use Rattle.rule.specs.Calls.{inputAnswer, patternIn, blockIn, LimitInOrder, ForwardCall, StartByStartCall}
-use Rattle.rule.proofs.Accepted.{start-by-start-told, forward-call-told}
+use Rattle.rule.specs.Calls.{patternIn, blockIn, LimitInOrder}
 use Rattle.rule.proofs.Demand3.{SameNumbers, TooManyFirst, forward-then-start, start-then-forward, room-refused, many-inside}
 use Rattle.rule.proofs.Inputs.{input-in-order, times-never-fall}
 use Rattle.rule.proofs.Results.{checked-input}

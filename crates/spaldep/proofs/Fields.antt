@@ -1,6 +1,6 @@
 -- The fields of a C answer are those of the call's answer, each stopped at its largest number, and stand for each other
 -- exactly where they fit. Assumes nothing.
-use mathlib.Core.Path.{_≡_, _∙_, sym, ap}
+use mathlib.Core.Path.{_≡_}
 use Prim.Native.Nat.{ℕ, _+_, _*_, _^_, _<_}
 use native.Mathlib.Omega.{arith}
 use Rattle.numbers.specs.Numbers.{field}

@@ -1,12 +1,10 @@
 -- What a C call answers where the result slice is not in order. Assumes nothing.
-use mathlib.Core.Path.{_≡_, _∙_, refl, sym, ap}
-use mathlib.Core.Bool.{true, false}
+use mathlib.Core.Path.{_≡_, _∙_, refl, ap}
 use mathlib.Core.List.{List}
 use Prim.Native.Nat.{ℕ}
 use borrow.Author.Tests.{eq-eqb, ne-eqb, eqb-true, eqb-false}
 use lib.Dec.{eqb}
 use Rattle.numbers.proofs.Cases.{by-test}
-use Rattle.records.specs.declared.Answer.{Answer}
 use Rattle.records.specs.Blocks.{refused}
 use Rattle.rule.specs.Calls.{inputAnswer, zeros, StartByStartCall, ForwardCall}
 use Rattle.spaldep.specs.Packed.{packedAnswer}

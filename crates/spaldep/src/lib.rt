@@ -1,7 +1,7 @@
 // The C calls. Each hands the host's bytes straight through and packs the answer into one number.
 ghost use mathlib.Core.Path.{_≡_};
-ghost use mathlib.Core.Bool.{Bool, true, false};
-ghost use Prim.Native.Nat.{ℕ, min};
+ghost use mathlib.Core.Bool.{true};
+ghost use Prim.Native.Nat.{min};
 ghost use lib.ListN.{length};
 ghost use Rattle.records.specs.Blocks.{blockAnswer, refused};
 ghost use Rattle.patterns.specs.Checked.{patternAnswer};

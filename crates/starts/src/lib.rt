@@ -1,19 +1,18 @@
 // The start-by-start pass, and measure.
 ghost use mathlib.Core.Path.{_≡_};
-ghost use Prim.Native.Nat.{ℕ, _+_, _-_, _*_, _^_, _/_, _<_, _≤_, min};
+ghost use Prim.Native.Nat.{_+_, _-_, _*_, _^_, _/_, _<_, _≤_, min};
 ghost use lib.Dec.{ltb};
 ghost use lib.ListN.{length, replicate};
-ghost use Rattle.numbers.specs.Numbers.{oneIf};
 ghost use Rattle.numbers.specs.Bits.{within};
-ghost use Rattle.records.specs.Records.{recordBytes, recordCount, recordsOf};
+ghost use Rattle.records.specs.Records.{recordCount, recordsOf};
 ghost use Rattle.records.specs.Blocks.{InOrder as BlockInOrder, mostRecords};
 ghost use Rattle.patterns.specs.Checked.{InOrder};
 ghost use Rattle.patterns.specs.Patterns.{mostVariables};
 ghost use Rattle.rule.specs.Promises.{mostCounted};
 ghost use Rattle.rule.specs.Starts.{foundAll};
-ghost use Rattle.rule.specs.Starts.Found.{closed, over};
+ghost use Rattle.rule.specs.Starts.Found.{closed};
 ghost use Rattle.rule.specs.Calls.{StartByStartCall, MeasureCall};
-ghost use Rattle.slots.specs.Slots.{slotBytes, countIn, stateIn, heldIn};
+ghost use Rattle.slots.specs.Slots.{slotBytes, countIn, heldIn};
 ghost use Rattle.firing.specs.Plan.{planRoom};
 ghost use Rattle.firing.specs.Firing.{Fit};
 ghost use Rattle.starts.specs.Sinks.{sinkOf, sum as sumTo, emit, emits, noneYet, answerBy, leftBy, measureBy};

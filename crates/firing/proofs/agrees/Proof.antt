@@ -1,5 +1,5 @@
 -- `firing::agrees` meets its contract: the order mark, and if it is met the conditions. Assumes nothing.
-use mathlib.Core.Path.{_≡_, _∙_, sym, ap}
+use mathlib.Core.Path.{_∙_, sym, ap}
 use mathlib.Core.Bool.{Bool, _&&_}
 use borrow.Author.Tests.{not-true, not-false}
 use Rattle.slots.specs.Slots.{heldIn, bindingsIn, countIn}

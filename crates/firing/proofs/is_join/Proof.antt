@@ -1,5 +1,4 @@
 -- `firing::is_join` meets its contract. Assumes nothing.
-use mathlib.Core.Path.{_≡_}
 use borrow.Author.Tests.{eq-eqb, ne-eqb}
 use Rattle.firing.specs.Plan.{joins}
 use Rattle.firing.proofs.is_join.Statement.{statement}

@@ -1,5 +1,4 @@
 -- `firing::is_own` meets its contract. Assumes nothing.
-use mathlib.Core.Path.{_≡_}
 use borrow.Author.Tests.{eq-eqb, ne-eqb}
 use Rattle.firing.proofs.is_own.Statement.{statement}
 use Rattle.firing.proofs.is_own.Tie as tie

@@ -1,5 +1,4 @@
 -- `firing::is_standing` meets its contract, mask by mask. Assumes nothing.
-use mathlib.Core.Path.{_≡_}
 use borrow.Author.Tests.{lt-ltb, le-ltb, le-leb, lt-leb, eq-eqb, ne-eqb}
 use Rattle.firing.specs.Plan.{standing}
 use Rattle.firing.proofs.is_standing.Statement.{statement}

@@ -1,5 +1,5 @@
 -- `firing::leaves` meets its contract: v is bound, or it is not. Assumes nothing.
-use mathlib.Core.Path.{_≡_, _∙_, sym}
+use mathlib.Core.Path.{_∙_, sym}
 use Rattle.firing.proofs.Slots.{leaves-loop, leaves-open}
 use borrow.Author.Needs.{needs}
 use Rattle.firing.proofs.leaves.Statement.{statement}

@@ -1,15 +1,12 @@
 -- `firing::pair_holds` meets its contract, by the side that v stands on and by the variable of the binding. Assumes nothing.
-use mathlib.Core.Path.{_≡_, _∙_, sym, ap, ap₂}
-use mathlib.Core.Bool.{Bool, true, false}
+use mathlib.Core.Path.{_≡_, _∙_, sym, ap}
+use mathlib.Core.Bool.{true, false}
 use Prim.Native.Nat.{ℕ}
 use borrow.Author.Tests.{eq-eqb, ne-eqb}
 use lib.Dec.{eqb}
 use lib.IntN.{pos}
-use Rattle.records.specs.declared.Record.{Record}
 use Rattle.records.specs.Records.{recordAt}
 use Rattle.patterns.specs.Comparison.{value, orderOf, meets, raise}
-use Rattle.automaton.specs.Lists.{implies}
-use Rattle.rule.specs.Rule.{Binding}
 use Rattle.firing.proofs.Slots.{bindingAt}
 use Rattle.firing.proofs.Joins.{meets-first, meets-second}
 use borrow.Author.Needs.{needs}

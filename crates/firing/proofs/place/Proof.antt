@@ -1,6 +1,5 @@
 -- `firing::place` meets its contract, by the part of the plan that the place stands in. Assumes nothing.
-use mathlib.Core.Path.{_≡_, _∙_, sym}
-use Prim.Native.Nat.{_<_, _≤_}
+use mathlib.Core.Path.{_∙_, sym}
 use native.Mathlib.Omega.{arith}
 use Rattle.firing.proofs.Plans.{place-word, place-none, place-mask, place-joins, place-class, place-others}
 use borrow.Author.Needs.{needs}

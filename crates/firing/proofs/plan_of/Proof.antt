@@ -1,8 +1,7 @@
 -- `firing::plan_of` meets its contract. The loop's invariant: the places passed are filled, and give the conditions back.
 -- Assumes nothing.
 use mathlib.Core.Path.{_≡_, _∙_, refl, ap, subst}
-use mathlib.Core.List.{List}
-use Prim.Native.Nat.{ℕ, _-_, _≤_}
+use Prim.Native.Nat.{_-_, _≤_}
 use native.Mathlib.Omega.{arith}
 use borrow.Author.Needs.{needs}
 use lib.ListN.{length}

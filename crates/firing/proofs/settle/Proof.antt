@@ -1,7 +1,7 @@
 -- `firing::settle` meets its contract, case by case. Assumes nothing.
 use mathlib.Core.Path.{_≡_, _∙_, sym, ap}
 use mathlib.Core.Bool.{true, false, _||_}
-use Prim.Native.Nat.{_-_, _*_, _^_, _<_, _≤_}
+use Prim.Native.Nat.{_-_, _*_, _^_}
 use native.Mathlib.Omega.{arith}
 use borrow.Author.Tests.{not-true, not-false}
 use lib.Dec.{eqb}

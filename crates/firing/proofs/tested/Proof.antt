@@ -1,5 +1,5 @@
 -- `firing::tested` meets its contract, by the side that v stands on and by the state. Assumes nothing.
-use mathlib.Core.Path.{_≡_, _∙_, sym, ap}
+use mathlib.Core.Path.{_∙_, sym, ap}
 use borrow.Author.Tests.{eq-eqb, ne-eqb}
 use Rattle.numbers.specs.Bits.{bit}
 use Rattle.firing.proofs.Joins.{other-first, other-second, tested-bound, tested-free}

@@ -1,7 +1,7 @@
 -- `firing::variable_mask` meets its contract. The loop's invariant: the bits are the mask of the variables passed. Assumes
 -- nothing.
 use mathlib.Core.Path.{_≡_, _∙_, sym, ap}
-use Prim.Native.Nat.{ℕ, _-_, _≤_}
+use Prim.Native.Nat.{_-_, _≤_}
 use native.Mathlib.Omega.{arith}
 use borrow.Author.Needs.{needs}
 use Rattle.numbers.specs.Bits.{mask}

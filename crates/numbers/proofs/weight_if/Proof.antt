@@ -1,10 +1,7 @@
 -- `numbers::weight_if` meets its contract. Assumes nothing.
-use mathlib.Core.Path.{_≡_, _∙_, sym, ap}
-use mathlib.Core.Bool.{Bool}
-use Prim.Native.Nat.{ℕ, _*_, _^_}
+use mathlib.Core.Path.{_∙_, sym}
 use native.Mathlib.Nat.{one-mul, zero-mul}
 use borrow.Author.Needs.{needs}
-use Rattle.numbers.specs.Numbers.{oneIf}
 use Rattle.numbers.proofs.weight_if.Statement.{statement}
 use Rattle.numbers.proofs.weight_if.Tie as tie
 

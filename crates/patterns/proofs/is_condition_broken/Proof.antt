@@ -1,6 +1,5 @@
 -- `patterns::is_condition_broken` meets its contract. Assumes nothing.
 use borrow.Author.Tests.{eq-eqb, ne-eqb, le-leb, lt-leb, lt-ltb, le-ltb}
-use mathlib.Core.Path.{_≡_, ap}
 use Rattle.patterns.specs.Patterns.{conditionBroken, conditionZero}
 use borrow.Author.Needs.{needs}
 use Rattle.patterns.proofs.is_condition_broken.Statement.{statement}

@@ -1,7 +1,6 @@
 -- `patterns::least_set` meets its contract. Assumes nothing.
-use native.Mathlib.Omega.{arith}
 use borrow.Author.Tests.{eq-eqb, ne-eqb}
-use Rattle.patterns.specs.Patterns.{setNumber, leastSet}
+use Rattle.patterns.specs.Patterns.{leastSet}
 use borrow.Author.Needs.{needs}
 use Rattle.patterns.proofs.least_set.Statement.{statement}
 use Rattle.patterns.proofs.least_set.Tie as tie

@@ -1,5 +1,5 @@
 -- `patterns::raised_constant` gives a condition's constant, signed beside amount, raised by 2^31. Assumes nothing.
-use mathlib.Core.Path.{_≡_, _∙_, sym, ap}
+use mathlib.Core.Path.{_∙_, sym, ap}
 use borrow.Author.Needs.{needs}
 use Rattle.patterns.specs.Comparison.{raise}
 use Rattle.patterns.proofs.Comparison.{constant-signed, constant-unsigned}

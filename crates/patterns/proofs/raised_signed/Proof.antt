@@ -1,5 +1,5 @@
 -- `patterns::raised_signed` gives 32 bits, read as two's complement, raised by 2^31. Assumes nothing.
-use mathlib.Core.Path.{_≡_, sym}
+use mathlib.Core.Path.{sym}
 use borrow.Author.Needs.{needs}
 use Rattle.patterns.proofs.Comparison.{raise-lower, raise-upper}
 use Rattle.patterns.proofs.raised_signed.Statement.{statement}

@@ -1,9 +1,9 @@
 -- `patterns::with_conditions` meets its contract. Assumes nothing.
 use borrow.Author.Needs.{needs}
 use mathlib.Core.Path.{_≡_, _∙_, ap}
-use Prim.Native.Nat.{ℕ, _-_, _≤_, _+_, _*_}
+use Prim.Native.Nat.{ℕ, _-_, _≤_}
 use native.Mathlib.Omega.{arith}
-use Rattle.patterns.specs.Patterns.{conditionOf, conditionWord, variableCount}
+use Rattle.patterns.specs.Patterns.{conditionOf, conditionWord}
 use Rattle.patterns.specs.Checked.{patternUpTo}
 use Rattle.patterns.proofs.Reading.{condition-read}
 use Rattle.patterns.proofs.with_conditions.Statement.{statement}

@@ -1,11 +1,9 @@
 -- `patterns::with_counts` meets its contract. Assumes nothing.
-use mathlib.Core.Path.{_≡_, _∙_}
+use mathlib.Core.Path.{_≡_}
 use Rattle.patterns.specs.Patterns.{duration}
 use Rattle.patterns.proofs.Reading.{counts-read}
 use Prim.Native.Nat.{_/_, _%_}
 use native.Mathlib.Omega.{arith}
-use Rattle.patterns.specs.Checked.{patternUpTo, filled, blank}
-use Rattle.numbers.specs.Numbers.{upto}
 use borrow.Author.Needs.{needs}
 use Rattle.patterns.proofs.with_counts.Statement.{statement}
 use Rattle.patterns.proofs.with_counts.Tie as tie

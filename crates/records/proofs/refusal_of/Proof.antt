@@ -6,7 +6,7 @@ use Rattle.records.proofs.Blocks.{refusal-6, refusal-7, refusal-none, l
 use mathlib.Core.Bool.{true, false}
 use native.Mathlib.Omega.{arith}
 use Rattle.records.specs.Records.{recordAt}
-use Rattle.records.specs.Blocks.{broken, late, recordRefusal}
+use Rattle.records.specs.Blocks.{broken}
 use borrow.Author.Needs.{needs}
 use Rattle.records.proofs.refusal_of.Statement.{statement}
 use Rattle.records.proofs.refusal_of.Tie as tie

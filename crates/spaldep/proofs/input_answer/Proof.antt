@@ -1,5 +1,5 @@
 -- `spaldep::input_answer` meets its contract. Assumes nothing.
-use mathlib.Core.Path.{_≡_, _∙_, sym, ap}
+use mathlib.Core.Path.{_∙_, sym, ap}
 use Rattle.patterns.specs.declared.Checked.{Checked}
 use Rattle.records.specs.Blocks.{refused}
 use Rattle.rule.proofs.Inputs.{input-pattern, input-block}

@@ -1,5 +1,5 @@
 -- `spaldep::is_unfit` meets its contract. Assumes nothing.
-use mathlib.Core.Bool.{true≢false, false≢true}
+use mathlib.Core.Bool.{true≢false}
 use borrow.Author.Tests.{ltb-true, ltb-false}
 use native.Mathlib.Omega.{arith}
 use Rattle.spaldep.proofs.is_unfit.Statement.{statement}

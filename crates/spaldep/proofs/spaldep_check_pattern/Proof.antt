@@ -1,5 +1,5 @@
 -- `spaldep::spaldep_check_pattern` meets its contract. Assumes nothing.
-use mathlib.Core.Path.{_≡_, _∙_, ap}
+use mathlib.Core.Path.{_∙_, ap}
 use Rattle.patterns.specs.declared.Checked.{Checked}
 use Rattle.records.specs.Blocks.{refused}
 use Rattle.spaldep.specs.Packed.{packedAnswer}

@@ -1,5 +1,5 @@
 -- `spaldep::spaldep_start_by_start` meets its contract. Assumes nothing.
-use mathlib.Core.Path.{_≡_, _∙_, ap}
+use mathlib.Core.Path.{_∙_, ap}
 use Rattle.spaldep.specs.Packed.{packedAnswer}
 use Rattle.spaldep.specs.Host.{StartByStartHost}
 use Rattle.spaldep.proofs.Unfit.{unfit-start}

@@ -1,5 +1,5 @@
 -- `spaldep::unfit_answer` meets its contract. Assumes nothing.
-use mathlib.Core.Path.{_≡_, _∙_, sym, ap}
+use mathlib.Core.Path.{_∙_, sym, ap}
 use Rattle.records.specs.declared.Answer.{Answer}
 use Rattle.spaldep.proofs.Unfit.{unfit-input, unfit-result}
 use borrow.Author.Needs.{needs}
