@@ -1,6 +1,8 @@
 // Rows of a table of text, for the test programs: their words, numbers and hex digits, and what is written.
-ghost use Prim.Native.Nat.{_*_, _<_, _≤_};
-ghost use lib.ListN.{length};
+ghost use mathlib.Core.Path.{_≡_};
+ghost use Prim.Native.Nat.{_*_, _<_, _≤_, min};
+ghost use lib.ListN.{length, getD};
+ghost use Rattle.tables.specs.Rows.{FirstFrom, Behind, lineFeed, space};
 use libc::STDOUT_FILENO;
 
 // More than any number of the table.
@@ -20,7 +22,7 @@ pub fn put_word(n: u64) {
 }
 
 pub fn least(a: usize, b: usize) -> usize
-    ensures { λ r. ⌜ r ≤ b ⌝ }
+    ensures { λ r. ⌜ r ≡ min a b ⌝ }
 {
     if a < b { a } else { b }
 }
@@ -28,7 +30,7 @@ pub fn least(a: usize, b: usize) -> usize
 // Where the line that goes on at a place ends.
 pub fn line_end(table: &[u8], at: usize) -> usize
     requires { ⌜ at ≤ length (now table) ⌝ }
-    ensures { λ r. ⌜ (at ≤ r) × (r ≤ length (now (table .entry))) ⌝ }
+    ensures { λ r. ⌜ FirstFrom (now (table .entry)) lineFeed at r ⌝ }
 {
     let mut i = at;
     while i < table.len() {
@@ -41,7 +43,9 @@ pub fn line_end(table: &[u8], at: usize) -> usize
 }
 
 // The first byte of a row, or 0.
-pub fn first(row: &[u8]) -> u8 {
+pub fn first(row: &[u8]) -> u8
+    ensures { λ r. ⌜ r ≡ getD (now (row .entry)) 0 0 ⌝ }
+{
     if row.len() == 0 {
         return 0;
     }
@@ -51,7 +55,7 @@ pub fn first(row: &[u8]) -> u8 {
 // Where the next word begins, or the row's end.
 pub fn next_word(row: &[u8], at: usize) -> usize
     requires { ⌜ at ≤ length (now row) ⌝ }
-    ensures { λ r. ⌜ (at ≤ r) × (r ≤ length (now (row .entry))) ⌝ }
+    ensures { λ r. ⌜ Behind (now (row .entry)) space at r × (at ≤ r) × (r ≤ length (now (row .entry))) ⌝ }
 {
     let mut i = at;
     while i < row.len() {
