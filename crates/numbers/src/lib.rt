@@ -1,6 +1,6 @@
 // Bytes read as numbers, and the bits of numbers.
 ghost use mathlib.Core.Path.{_≡_};
-ghost use Prim.Native.Nat.{_+_, _-_, _*_, _^_, _<_, _≤_};
+ghost use Prim.Native.Nat.{ℕ, _+_, _-_, _*_, _^_, _<_, _≤_};
 ghost use lib.ListN.{length, getD, replicate};
 ghost use lib.Bits.{bitOr};
 ghost use Rattle.numbers.specs.Numbers.{number, oneIf};
@@ -65,6 +65,16 @@ pub fn weight_if(test: bool, v: usize) -> u64
     0
 }
 
+// 1 if the test passes, else 0.
+pub fn one_if(test: bool) -> usize
+    ensures { λ r. ⌜ r ≡ oneIf test ⌝ }
+{
+    if test {
+        return 1;
+    }
+    0
+}
+
 pub fn bit_of(number: u64, v: usize) -> bool
     requires { ⌜ v < 64 ⌝ }
     ensures { λ r. ⌜ r ≡ bit number v ⌝ }
@@ -98,6 +108,14 @@ pub fn lowest_bit(number: u64) -> usize
     ensures { λ r. ⌜ IsLowestBit 64 number r ⌝ }
 {
     u64::trailing_zeros(number) as usize
+}
+
+// The number without its lowest bit.
+pub fn without_lowest(number: u64) -> u64
+    requires { ⌜ 0 < number ⌝ }
+    ensures { λ r. ⌜ ((v : ℕ) → IsLowestBit 64 number v → r ≡ number - 2 ^ v) ⌝ }
+{
+    number & (number - 1)
 }
 
 // The number without bit v.
