@@ -1,19 +1,19 @@
 -- Laws of the comparison: raising by 2^31 keeps the order of whole numbers, an order says what it is named after, and the
 -- table of operators says what each operator's sign says. Assumes nothing.
-use mathlib.Core.Path.{_≡_, _∙_, refl, sym, ap}
+use mathlib.Core.Path.{_≡_, _∙_, refl, sym, ap, ap₂}
 use mathlib.Core.Bool.{Bool, true, false, xor, true≢false}
 use mathlib.Core.List.{List, [], _∷_}
-use Prim.Native.Nat.{ℕ, _+_, _-_, _^_, _≤_, _<_}
+use Prim.Native.Nat.{ℕ, _+_, _-_, _%_, _^_, _≤_, _<_}
 use native.Mathlib.Omega.{arith}
-use borrow.Author.Tests.{lt-ltb, le-ltb, eq-eqb, ne-eqb, ltb-true, ltb-false, eqb-true, eqb-false}
-use lib.Dec.{eqb, ltb}
+use borrow.Author.Tests.{lt-ltb, le-ltb, le-leb, lt-leb, eq-eqb, ne-eqb, ltb-true, ltb-false, eqb-true, eqb-false}
+use lib.Dec.{eqb, ltb, leb}
 use lib.IntN.{ℤ, pos, negsuc}
 use lib.ListN.{getD}
 use lib.Signed.{ltZ}
 use Rattle.patterns.specs.declared.Condition.{Condition}
 use Rattle.patterns.specs.Comparison.{signed, value, constantValue, less, equal, greater, orderOf, meets, comparedWith, holds, raise}
 use Rattle.records.specs.declared.Record.{Record}
-use Rattle.numbers.specs.Numbers.{first, firstFrom}
+use Rattle.numbers.specs.Numbers.{first, firstFrom, oneIf}
 use Rattle.numbers.proofs.Cases.{by-test, by-order}
 use Rattle.numbers.proofs.First.{first-fails}
 
@@ -61,6 +61,19 @@ order-bound a b =
     (λ l. omega (arith, less-order a b l))
     (λ e. omega (arith, equal-order a b e))
     (λ g. omega (arith, greater-order a b g))
+
+-- the order of two naturals, counted: 1 where the first is not less, and 1 more where it is greater
+pub order-counted : (x y : ℕ) → oneIf (leb y x) + oneIf (ltb y x) ≡ orderOf (pos x) (pos y)
+order-counted x y =
+    by-order x y
+    (λ l. ap₂ count (lt-leb y x l) (le-ltb y x (omega arith)) ∙ sym (less-order (pos x) (pos y) (lt-ltb x y l)))
+    (λ l.
+    by-order y x
+    (λ m. ap₂ count (le-leb y x l) (lt-ltb y x m) ∙ sym (greater-order (pos x) (pos y) (lt-ltb y x m)))
+    (λ m. let e : x ≡ y = omega arith in ap₂ count (le-leb y x l) (le-ltb y x m) ∙ sym (equal-order (pos x) (pos y) (ap pos e))))
+  where
+    count : Bool → Bool → ℕ
+    count s t = oneIf s + oneIf t
 
 -- ## Raising
 
@@ -122,13 +135,12 @@ low-compared k second =
     (λ e. rw (compared-value k second (eqb-false _ _ e)) (low-value (k .attribute2) second))
 
 -- the lower half of the words is not negative, and is raised above the upper half
-pub raise-lower : (word : ℕ) → word < 2 ^ 31 → raise (signed word) ≡ word + 2 ^ 31
+pub raise-signed : (word : ℕ) → word < 2 ^ 32 → (word + 2 ^ 31) % 2 ^ 32 ≡ raise (signed word)
 unfolding signed raise
-raise-lower word l = rw (lt-ltb word (2 ^ 31) l, signed)
-
-pub raise-upper : (word : ℕ) → 2 ^ 31 ≤ word → word < 2 ^ 32 → raise (signed word) ≡ word - 2 ^ 31
-unfolding signed raise
-raise-upper word l m = rw (le-ltb word (2 ^ 31) l, signed) (omega arith)
+raise-signed word h =
+    by-order word (2 ^ 31)
+    (λ l. rw (lt-ltb word (2 ^ 31) l, signed) (omega arith))
+    (λ l. rw (le-ltb word (2 ^ 31) l, signed) (omega arith))
 
 same-test : (a b c d : ℕ) → (a < b → c < d) → (b ≤ a → d ≤ c) → ltb c d ≡ ltb a b
 same-test a b c d f g =

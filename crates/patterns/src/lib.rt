@@ -406,15 +406,11 @@ const OPERATORS: [[bool; 3]; 5] = [
 // Whole numbers are compared as naturals, each raised by 2^31.
 const RAISE: u64 = 2147483648;
 
-// 32 bits as two's complement, raised.
+// 32 bits as two's complement, raised: the sum's lowest 32 bits.
 fn raised_signed(word: u32) -> u64
     ensures { λ r. ⌜ r ≡ raise (signed word) ⌝ }
 {
-    let wide = word as u64;
-    if wide < RAISE {
-        return wide + RAISE;
-    }
-    wide - RAISE
+    (word as u64 + RAISE) % 4294967296
 }
 
 // An attribute of a record, raised.
@@ -450,13 +446,7 @@ pub fn raised_constant(attribute: u8, constant: u32) -> u64
 pub fn order(x: u64, y: u64) -> usize
     ensures { λ r. ⌜ r ≡ orderOf (pos x) (pos y) ⌝ }
 {
-    if x < y {
-        return 0;
-    }
-    if y < x {
-        return 2;
-    }
-    1
+    numbers::one_if(y <= x) + numbers::one_if(y < x)
 }
 
 // Whether an order meets an operator.
