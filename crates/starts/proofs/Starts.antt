@@ -18,12 +18,18 @@ use Rattle.rule.proofs.Found.{start-gap as found-gap}
 use Rattle.slots.specs.Slots.{slotBytes, countIn, heldIn}
 use Rattle.starts.specs.declared.Start.{Start}
 use Rattle.starts.specs.Sinks.{Sink, emits}
-use Rattle.starts.specs.Skips.{firingBy, Usable, Firing, Of, Branched, branchOver, StartIs, Started}
+use Rattle.starts.specs.Skips.{firingBy, Usable, Firing, Of, Branched, branchOver, StartIs, AllStarted}
 use Rattle.starts.proofs.Sinks.{emits-append}
 use Rattle.starts.proofs.Readings.{nothing, firing-begins, firing-bound, empty-reads}
 use Rattle.starts.proofs.Windows.{is-event, is-gap}
 use Rattle.starts.proofs.Turns.{turn-none, mask-turn, low-bits}
 use Rattle.starts.proofs.Skips.{few-bits}
+
+-- what is found from record i
+pub record Started (plan bytes : List ℕ) (n c duration i : ℕ) (before after : Sink) : Type 0 where
+  pub found :
+      (p : Pattern) → Of p plan bytes n c → p .duration ≡ duration
+      → after ≡ emits before (startFound p (recordsOf bytes) i)
 
 module _ (plan bytes : List ℕ) (n c duration i : ℕ) (usable : Usable plan bytes n c) (inside : i < recordCount bytes) where
   pub started-gap : (recordAt bytes i .kind ≡ eventKind → ⊥) → (before : Sink) → Started plan bytes n c duration i before before
@@ -85,20 +91,38 @@ module _ (plan bytes : List ℕ) (n c duration i : ℕ) (usable : Usable plan by
 
 -- ## What is left to be done
 
-module _ (p : Pattern) (B : Block) (m i : ℕ) (s total : Sink) (left : total ≡ emits s (foundFrom p B i (m - i))) where
-  pub starts-more : i < m → (s₁ : Sink) → s₁ ≡ emits s (startFound p B i) → total ≡ emits s₁ (foundFrom p B (i + 1) (m - (i + 1)))
-  starts-more l s₁ e =
-      left
-      ∙ ap (emits s) (found-first p B i m l)
-      ∙ emits-append s (startFound p B i) (foundFrom p B (suc i) (m - suc i))
-      ∙ ap (λ (x : Sink). emits x (foundFrom p B (suc i) (m - suc i))) (sym e)
-      ∙ ap (λ (k : ℕ). emits s₁ (foundFrom p B k (m - k))) (sym (add-one i))
+-- from record i on, of all that is found
+pub record Left (plan bytes : List ℕ) (n c duration i : ℕ) (none now : Sink) : Type 0 where
+  pub found :
+      (p : Pattern) → Of p plan bytes n c → p .duration ≡ duration
+      → emits none (foundAll p (recordsOf bytes)) ≡ emits now (foundFrom p (recordsOf bytes) i (recordCount bytes - i))
 
-  pub starts-done : m ≤ i → s ≡ total
-  unfolding emits
-  starts-done l = sym (left ∙ ap (emits s) (found-end p B i m l))
+module _ (plan bytes : List ℕ) (n c duration : ℕ) (none : Sink) where
+  pub left-all : Left plan bytes n c duration 0 none none
+  left-all =
+      record {
+        found = λ p o d.
+            ap (emits none)
+            (sym (found-all p (recordsOf bytes)) ∙ ap (λ (k : ℕ). foundFrom p (recordsOf bytes) 0 (k - 0)) (length-records bytes));
+      }
 
-pub starts-begin : (p : Pattern) (bytes : List ℕ) (s : Sink) → emits s (foundAll p (recordsOf bytes)) ≡ emits s (foundFrom p (recordsOf bytes) 0 (recordCount bytes - 0))
-starts-begin p bytes s =
-    ap (emits s)
-    (sym (found-all p (recordsOf bytes)) ∙ ap (λ (k : ℕ). foundFrom p (recordsOf bytes) 0 (k - 0)) (length-records bytes))
+  module _ (i : ℕ) (now : Sink) (left : Left plan bytes n c duration i none now) where
+    pub left-more : i < recordCount bytes → (next : Sink) → Started plan bytes n c duration i now next → Left plan bytes n c duration (i + 1) none next
+    left-more l next started =
+        record {
+          found = λ p o d.
+              let B : Block = recordsOf bytes in
+              let m : ℕ = recordCount bytes in
+              left .found p o d
+              ∙ ap (emits now) (found-first p B i m l)
+              ∙ emits-append now (startFound p B i) (foundFrom p B (suc i) (m - suc i))
+              ∙ ap (λ (x : Sink). emits x (foundFrom p B (suc i) (m - suc i))) (sym (started .found p o d))
+              ∙ ap (λ (k : ℕ). emits next (foundFrom p B k (m - k))) (sym (add-one i));
+        }
+
+    pub left-none : recordCount bytes ≤ i → AllStarted plan bytes n c duration none now
+    unfolding emits
+    left-none l =
+        record {
+          found = λ p o d. sym (left .found p o d ∙ ap (emits now) (found-end p (recordsOf bytes) i (recordCount bytes) l));
+        }

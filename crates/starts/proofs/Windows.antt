@@ -3,8 +3,9 @@ use mathlib.Core.Path.{_≡_, refl, sym, ap, ap₂, subst, _∙_}
 use mathlib.Core.Bool.{true, false}
 use mathlib.Core.Logic.{⊎-elim}
 use mathlib.Core.List.{List}
-use Prim.Native.Nat.{ℕ, _+_, _-_, _≤_, _<_}
+use Prim.Native.Nat.{ℕ, suc, _+_, _-_, _≤_, _<_, max}
 use native.Mathlib.Nat.{eq-or-lt-of-le}
+use native.Mathlib.Numerals.{add-one}
 use native.Mathlib.Omega.{arith}
 use lib.Dec.{eqb, ltb}
 use lib.ListN.{length}
@@ -63,6 +64,7 @@ module _ (bytes : List ℕ) where
             conditions = refl;
             after = l;
             block = few;
+            opened = opened;
             small = small;
             closes = λ p d. sym (u p d);
             mark = λ p d. sym m ∙ ap (markAt B) (sym (u p d));
@@ -93,8 +95,28 @@ module _ (bytes : List ℕ) where
           anyPattern : Pattern
           anyPattern = Rattle.patterns.specs.Checked.blank
 
-pub open-none : (bytes : List ℕ) (duration i : ℕ) → OpenTo bytes duration i (i + 1)
+pub open-none : (bytes : List ℕ) (duration i : ℕ) → OpenTo bytes duration i 0
 open-none bytes duration i = record { event = λ q a b. absurd (omega arith); near = λ q a b. absurd (omega arith) }
+
+-- the record itself is no record of its window
+pub open-from : (bytes : List ℕ) (duration i k m : ℕ) → m ≡ max (i + 1) k → OpenTo bytes duration i k → OpenTo bytes duration i m
+open-from bytes duration i k m e opened =
+    record { event = λ q a b. opened .event q a (omega arith); near = λ q a b. opened .near q a (omega arith) }
+
+-- what is open from one record is open from the next, whose time is later
+pub open-later :
+    (bytes : List ℕ) (duration i k : ℕ) → ((q : ℕ) → suc q < recordCount bytes → recordAt bytes q .time < recordAt bytes (suc q) .time)
+    → k ≤ recordCount bytes
+    → OpenTo bytes duration i k
+    → OpenTo bytes duration (i + 1) k
+open-later bytes duration i k rising few opened =
+    record {
+      event = λ q a b. opened .event q (omega arith) b;
+      near = λ q a b.
+          let near = opened .near q (omega arith) b in
+          let later : recordAt bytes i .time < recordAt bytes (i + 1) .time = rw (add-one i) (rising i (omega arith)) in
+          omega arith;
+    }
 
 -- the time is compared without the sum
 pub past-sum : (first duration time : ℕ) → first ≤ time → ltb duration (time - first) ≡ ltb (first + duration) time

@@ -13,7 +13,7 @@ use Rattle.patterns.specs.Patterns.{mostVariables, mostConditions}
 use Rattle.patterns.specs.Checked.{InOrder}
 use Rattle.rule.specs.Rule.{Block, Binding, Reading, TimesNeverFall, lastOf}
 use Rattle.rule.specs.Promises.{mostBindings}
-use Rattle.rule.specs.Starts.{Found, until, markOf, withBinding, inTurn, close, skipUntil, startFound, foundAll}
+use Rattle.rule.specs.Starts.{Found, until, markOf, withBinding, inTurn, close, skipUntil, foundAll}
 use Rattle.slots.specs.Slots.{Held, slotBytes, countIn, heldIn, holding}
 use Rattle.firing.specs.Plan.{IsPlan, Sound, Classed}
 use Rattle.firing.specs.Firing.{canBy, leavesBy, agreesBy, firesBy}
@@ -56,6 +56,7 @@ pub record Usable (plan bytes : List ℕ) (n c : ℕ) : Type 0 where
   pub variables : n ≤ mostVariables
   pub conditions : c ≤ mostConditions
   pub records : recordCount bytes ≤ mostRecords
+  pub rising : (i : ℕ) → suc i < recordCount bytes → recordAt bytes i .time < recordAt bytes (suc i) .time
 
 -- what a call at record j may count on
 pub record Ready (plan bytes : List ℕ) (s : Start) (slot : List ℕ) (j : ℕ) : Type 0 where
@@ -124,15 +125,10 @@ pub record StartIs (bytes : List ℕ) (n c duration i : ℕ) (s : Start) : Type 
   pub conditions : s .c ≡ c
   pub after : i < s .until
   pub block : s .until ≤ recordCount bytes
+  pub opened : OpenTo bytes duration i (s .until)
   pub small : s .mark < 16
   pub closes : (p : Pattern) → p .duration ≡ duration → s .until ≡ until p (recordsOf bytes) i
   pub mark : (p : Pattern) → p .duration ≡ duration → s .mark ≡ markOf p (recordsOf bytes) i
-
--- from record i
-pub record Started (plan bytes : List ℕ) (n c duration i : ℕ) (before after : Sink) : Type 0 where
-  pub found :
-      (p : Pattern) → Of p plan bytes n c → p .duration ≡ duration
-      → after ≡ emits before (startFound p (recordsOf bytes) i)
 
 -- from each record in turn
 pub record AllStarted (plan bytes : List ℕ) (n c duration : ℕ) (before after : Sink) : Type 0 where

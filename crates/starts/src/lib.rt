@@ -1,6 +1,6 @@
 // The start-by-start pass, and measure.
 ghost use mathlib.Core.Path.{_≡_};
-ghost use Prim.Native.Nat.{_+_, _-_, _*_, _^_, _/_, _<_, _≤_, min};
+ghost use Prim.Native.Nat.{_+_, _-_, _*_, _^_, _/_, _<_, _≤_, min, max};
 ghost use lib.Dec.{ltb};
 ghost use lib.ListN.{length, replicate};
 ghost use Rattle.numbers.specs.Bits.{within};
@@ -16,7 +16,7 @@ ghost use Rattle.slots.specs.Slots.{slotBytes, countIn, heldIn};
 ghost use Rattle.firing.specs.Plan.{planRoom};
 ghost use Rattle.firing.specs.Firing.{Fit};
 ghost use Rattle.starts.specs.Sinks.{sinkOf, sum as sumTo, emit, emits, noneYet, answerBy, leftBy, measureBy};
-ghost use Rattle.starts.specs.Skips.{leavingBy, agreeingBy, Cans, Reads, Usable, Ready, Firing, NextBy, Closed, Skipped, Branched, StartIs, Started, AllStarted};
+ghost use Rattle.starts.specs.Skips.{leavingBy, agreeingBy, Cans, Reads, Usable, Ready, Firing, NextBy, Closed, Skipped, Branched, OpenTo, StartIs, AllStarted};
 
 const RECORD_BYTES: usize = 16;
 
@@ -296,14 +296,21 @@ fn is_past(first: u64, duration: u64, time: u64) -> bool
     duration < time - first
 }
 
-// What record i fixes as the first of a reading.
-fn start_at(block: &[u8], n: usize, c: usize, duration: u64, i: usize) -> Start
-    requires { ⌜ i < recordCount (now block) ⌝ }
+// The larger of two.
+fn larger(a: usize, b: usize) -> usize
+    ensures { λ r. ⌜ r ≡ max a b ⌝ }
+{
+    if a < b { b } else { a }
+}
+
+// What record i fixes as the first of a reading; no record before `opened` closes it.
+fn start_at(block: &[u8], n: usize, c: usize, duration: u64, i: usize, opened: usize) -> Start
+    requires { ⌜ (i < recordCount (now block)) × (opened ≤ recordCount (now block)) × OpenTo (now block) duration i opened ⌝ }
     ensures { λ s. ⌜ StartIs (now (block .entry)) n c duration i s ⌝ }
 {
     let first = records::time_at(block, i);
     let count = block.len() / RECORD_BYTES;
-    let mut k = i + 1;
+    let mut k = larger(i + 1, opened);
     while k < count {
         let r = records::unpack(block, k);
         if r.kind != 0 {
@@ -332,45 +339,8 @@ fn start_at(block: &[u8], n: usize, c: usize, duration: u64, i: usize) -> Start
     }
 }
 
-// Record i as the first of a reading; a gap is none. The variables of `first` leave the state of no bindings.
-fn one_start(
-    block: &[u8],
-    plan: &[u64; 97],
-    cans: &[u16; 4096],
-    first: u64,
-    n: usize,
-    c: usize,
-    duration: u64,
-    i: usize,
-    result: &mut [u8],
-    counts: Counts,
-) -> Counts
-    requires { ⌜ (Usable (now plan) (now block) n c) × (i < recordCount (now block)) × (Cans (now plan) (now block) n c (now cans)) × (first ≡ leavingBy (now plan) n 0) ⌝ }
-    ensures { λ o. ⌜ Started (now (plan .entry)) (now (block .entry)) n c duration i (sinkOf (now (result .entry)) counts) (sinkOf (now (result .exit)) o) ⌝ }
-{
-    let firing = cans[i] as u64 & first;
-    if firing == 0 {
-        return counts;
-    }
-    if records::unpack(block, i).kind != 0 {
-        return counts;
-    }
-    let s = start_at(block, n, c, duration, i);
-    let empty = slots::empty_slot();
-    branch(
-        block,
-        plan,
-        cans,
-        slots::Slot { bytes: empty },
-        i,
-        firing,
-        s,
-        result,
-        counts,
-    )
-}
-
-// Each record in turn as the first of a reading.
+// Each record in turn as the first of a reading; a gap is none. The variables of `first` leave the state of no bindings.
+// Readings of a later start close no earlier, so each search for the record that closes goes on where the last one ended.
 fn each_start(
     block: &[u8],
     plan: &[u64; 97],
@@ -389,10 +359,24 @@ fn each_start(
     };
     let cans = all_can(plan, n, c, block);
     let first = leaving(plan, n, 0);
+    let empty = slots::empty_slot();
+    let none = slots::Slot { bytes: empty };
     let count = block.len() / RECORD_BYTES;
+    let mut opened = 0;
     let mut i = 0;
     while i < count {
-        counts = one_start(block, plan, &cans, first, n, c, duration, i, result, counts);
+        let firing = cans[i] as u64 & first;
+        if firing == 0 {
+            i += 1;
+            continue;
+        }
+        if records::unpack(block, i).kind != 0 {
+            i += 1;
+            continue;
+        }
+        let s = start_at(block, n, c, duration, i, opened);
+        opened = s.until;
+        counts = branch(block, plan, &cans, none, i, firing, s, result, counts);
         i += 1;
     }
     counts

@@ -20,6 +20,7 @@ each-start-requires c κs =
       variables = st .pre .0 .few;
       conditions = st .pre .0 .fewConditions;
       records = st .pre .1 .few;
+      rising = st .pre .1 .rising;
     }
 
 same-length : tie.Need-same-length

@@ -6,34 +6,44 @@ use borrow.Author.Tests.{ltb-false}
 use Rattle.records.specs.declared.Record.{Record}
 use Rattle.records.specs.Records.{recordAt, recordCount}
 use Rattle.starts.specs.Skips.{OpenTo}
-use Rattle.starts.proofs.Windows.{open-none, open-more, start-gap, start-past, start-end}
+use Rattle.starts.proofs.Windows.{open-from, open-more, start-gap, start-past, start-end}
 use borrow.Author.Needs.{needs}
 use Rattle.starts.proofs.start_at.Statement.{statement}
 use Rattle.starts.proofs.start_at.Tie as tie
 
 abbrev Inv-loop : tie.InvT-loop
-Inv-loop block n c duration i first count k₀ k = (i < k) × (k ≤ count) × (count ≡ recordCount block) × (first ≡ recordAt block i .time) × OpenTo block duration i k
+Inv-loop block n c duration i opened first count k₀ k = (i < k) × (k ≤ count) × (count ≡ recordCount block) × (first ≡ recordAt block i .time) × OpenTo block duration i k
 
 abbrev μ-loop : tie.MeasureT-loop
-μ-loop block n c duration i first count k₀ k = count - k
+μ-loop block n c duration i opened first count k₀ k = count - k
 
 time-at-requires : tie.Need-time-at-requires Inv-loop μ-loop
 time-at-requires c κs = omega arith
 
-add-k : tie.Need-add-k Inv-loop μ-loop
-add-k c = search needs
+add-larger : tie.Need-add-larger Inv-loop μ-loop
+add-larger c = search needs
+
+larger-requires : tie.Need-larger-requires Inv-loop μ-loop
+larger-requires c κs = search needs
 
 loop-holds : tie.Need-loop-holds Inv-loop μ-loop
 loop-holds c =
-    let a = c .before .before .args in
-    (search needs, omega arith, refl, c .time-at .ensures, open-none (a .block .now) (a .duration) (a .i))
+    let st = c .before .before .before in
+    let a = st .args in
+    let k = c .larger in (
+      omega (arith, k .ensures),
+      omega (arith, k .ensures, st .pre .0, st .pre .1),
+      refl,
+      c .before .time-at .ensures,
+      open-from (a .block .now) (a .duration) (a .i) (a .opened) (k .result) (k .ensures) (st .pre .2),
+    )
 
 unpack-requires : tie.Need-unpack-requires Inv-loop μ-loop
 unpack-requires c κs = omega arith
 
 returns : tie.Need-returns Inv-loop μ-loop
 returns c =
-    let a = c .before .before .before .before .before .before .before .args in
+    let a = c .before .before .before .before .before .before .before .before .args in
     let h = c .before .before .before .before .loop in
     let r = c .before .before .unpack in
     let kind = ap (λ (x : Record). x .kind) (r .ensures) in
@@ -44,7 +54,7 @@ is-past-requires c κs = search needs
 
 returns-2 : tie.Need-returns-2 Inv-loop μ-loop
 returns-2 c =
-    let a = c .before .before .before .before .before .before .before .before .before .args in
+    let a = c .before .before .before .before .before .before .before .before .before .before .args in
     let h = c .before .before .before .before .before .before .loop in
     let r = c .before .before .before .before .unpack in
     let kind = ap (λ (x : Record). x .kind) (r .ensures) in
@@ -53,15 +63,15 @@ returns-2 c =
     start-past (a .block .now) (a .duration) (a .i) (h .k) (h .inv .0) (omega arith) (h .inv .4) (a .n) (a .c) (omega arith) (sym kind ∙ c .before .before .if1 .left)
     (rw (sym (h .inv .3), sym time) past)
 
-add-k-2 : tie.Need-add-k-2 Inv-loop μ-loop
-add-k-2 c = search needs
+add-k : tie.Need-add-k Inv-loop μ-loop
+add-k c = search needs
 
 loop-less : tie.Need-loop-less Inv-loop μ-loop
 loop-less c = search needs
 
 loop-again : tie.Need-loop-again Inv-loop μ-loop
 loop-again c =
-    let a = c .before .before .before .before .before .before .before .before .before .args in
+    let a = c .before .before .before .before .before .before .before .before .before .before .args in
     let h = c .before .before .before .before .before .before .loop in
     let r = c .before .before .before .before .unpack in
     let kind = ap (λ (x : Record). x .kind) (r .ensures) in
@@ -78,7 +88,7 @@ loop-again c =
 
 returns-3 : tie.Need-returns-3 Inv-loop μ-loop
 returns-3 c =
-    let a = c .before .before .before .before .args in
+    let a = c .before .before .before .before .before .args in
     let h = c .before .loop in
     let e : h .k ≡ recordCount (a .block .now) = omega (arith, c .loop-test .left) in
     subst (λ (k : ℕ). Rattle.starts.specs.Skips.StartIs (a .block .now) (a .n) (a .c) (a .duration) (a .i) (record { n = a .n; c = a .c; until = k; mark = 2 })) e
@@ -91,13 +101,14 @@ start-at-spec =
     Inv-loop
     μ-loop
     time-at-requires
-    add-k
+    add-larger
+    larger-requires
     loop-holds
     unpack-requires
     returns
     is-past-requires
     returns-2
-    add-k-2
+    add-k
     loop-less
     loop-again
     returns-3)
