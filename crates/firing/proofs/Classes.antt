@@ -1,30 +1,27 @@
 -- The variables whose own conditions hold of an event: those whose conditions on class hold of the event's class, settled by
--- the other conditions one by one. Assumes nothing.
+-- the other conditions kind by kind. Assumes nothing.
 use mathlib.Core.Path.{_≡_, _∙_, refl, sym, ap, ap₂}
-use mathlib.Core.Bool.{Bool, true, false, not, _&&_, _||_, and-false, or-true}
+use mathlib.Core.Bool.{Bool, true, false, not, _&&_, _||_}
 use mathlib.Core.List.{List}
-use Prim.Native.Nat.{ℕ, _-_, _*_, _^_, _/_, _<_}
+use Prim.Native.Nat.{ℕ, _*_, _/_, _^_, _≤_, _<_}
 use native.Mathlib.Omega.{arith}
-use borrow.Author.Tests.{eq-eqb, eqb-true}
+use borrow.Author.Tests.{eqb-true, not-true}
 use lib.Dec.{eqb}
 use lib.IntN.{ℤ, pos}
-use lib.ListN.{getD}
 use Rattle.numbers.specs.Numbers.{every}
 use Rattle.numbers.specs.Bits.{bit, mask}
-use Rattle.numbers.proofs.Cases.{by-test, by-order, both, not-not, same-test}
-use Rattle.numbers.proofs.Every.{every-of, every-true, every-same}
-use Rattle.numbers.proofs.Bits.{bit-high, bit-zero, mask-inside, mask-bound, mask-same}
+use Rattle.numbers.proofs.Cases.{by-test, both}
+use Rattle.numbers.proofs.Every.{every-true, every-same, every-both}
+use Rattle.numbers.proofs.Bits.{bit-zero, mask-bound, mask-inside, mask-nothing, mask-same}
 use Rattle.records.specs.declared.Record.{Record}
 use Rattle.records.specs.Records.{recordAt, classOf}
 use Rattle.patterns.specs.declared.Condition.{Condition}
-use Rattle.patterns.specs.Patterns.{conditionOf}
+use Rattle.patterns.specs.Patterns.{mostConditions, lastAttribute}
 use Rattle.patterns.specs.Comparison.{value, orderOf, meets, constantValue, comparedWith, holds}
 use Rattle.automaton.specs.Lists.{implies}
-use Rattle.automaton.proofs.Lists.{clash}
-use Rattle.firing.specs.Plan.{isOwn, onClass, isOnClass, otherOwn, isOther, classAttribute, typesTogether, typePlaces, sampleOf, classHolds, classMask, otherMask, conditionIn, classIn, othersIn, Classed}
-use Rattle.firing.specs.Firing.{ownHolds, canBy, settled}
-use Rattle.firing.proofs.Own.{own-none, settled-mask}
-use Rattle.firing.proofs.Joins.{less-bit}
+use Rattle.firing.specs.Plan.{isOwn, onClass, isOnClass, otherOwn, isOther, classAttribute, bothSides, typesTogether, typePlaces, sampleOf, classHolds, classMask, conditionIn, classIn, Sound, Classed}
+use Rattle.firing.specs.Firing.{ownHolds, otherHolds, settledBy, canBy}
+use Rattle.firing.proofs.Own.{own-none}
 
 -- ## Types of one class
 
@@ -58,122 +55,139 @@ module _ (k : Condition) where
         (value-class r ∙ ap pos e ∙ sym (value-class s))
         (compared-constant r ∙ sym (compared-constant s))
 
-    on-class-no-other : isOther k ≡ false
-    unfolding onClass otherOwn
-    on-class-no-other =
-        let h = both (eqb (k .form) 0) (eqb (k .attribute) classAttribute) on in
-        rw (h .0, h .1, otherOwn)
+-- ## One condition
 
-  -- a condition that is neither looks at two events
-  neither-own : isOnClass k ≡ false → isOther k ≡ false → eqb (k .form) 0 || eqb (k .variable) (k .variable2) ≡ false
-  unfolding onClass otherOwn
-  neither-own off none =
+-- what the class settles and then, one after the other, the kinds: type, core, slot, amount, and both sides
+abbrev byKinds : Bool → (ℕ → Bool) → Bool → Bool
+byKinds class is own =
+    ((((class && implies (is 1) own) && implies (is 0) own) && implies (is 3) own) && implies (is 4) own)
+    && implies (is bothSides) own
+
+-- the kinds of a condition of form 0
+abbrev byConstant : Bool → ℕ → Bool
+byConstant own attribute =
+    byKinds (implies (eqb attribute classAttribute) own) (λ kind. eqb attribute kind && not (eqb attribute classAttribute)) own
+
+constants-hold : every (byConstant true) 5 ≡ true
+unfolding every
+constants-hold = refl
+
+constants-fail : every (λ attribute. not (byConstant false attribute)) 5 ≡ true
+unfolding every
+constants-fail = refl
+
+by-constant : (attribute : ℕ) → attribute ≤ lastAttribute → (own : Bool) → byConstant own attribute ≡ own
+by-constant attribute h true = every-true (byConstant true) 5 constants-hold attribute (omega arith)
+by-constant attribute h false =
+    not-true (byConstant false attribute) (every-true (λ a. not (byConstant false a)) 5 constants-fail attribute (omega arith))
+
+-- the kinds of a condition of form 1
+by-sides : (same own : Bool) → (same ≡ false → own ≡ true) → byKinds true (λ kind. eqb kind bothSides && same) own ≡ own
+by-sides true own h = refl
+by-sides false own h = sym (h refl)
+
+module _ (k : Condition) (few : k .attribute ≤ lastAttribute) (b v : ℕ) (r : Record) (e : classOf (typesTogether * b) ≡ classOf (r .«event_type»)) where
+  abbrev own : Bool
+  own = implies (isOwn v k) (holds k r r)
+
+  class-of-form : eqb (k .form) 0 ≡ true → classHolds b v k ≡ implies (eqb (k .attribute) classAttribute) own
+  unfolding classHolds onClass sampleOf
+  class-of-form f =
+      by-test (eqb (k .attribute) classAttribute)
+      (λ a.
+      let on : isOnClass k ≡ true = rw (f, a) in
+      ap (λ (t : Bool). implies t (implies (isOwn v k) (holds k (sampleOf b) (sampleOf b)))) on
+      ∙ ap (implies (isOwn v k)) (on-class-holds k on (sampleOf b) r e)
+      ∙ ap (λ (t : Bool). implies t own) (sym a))
+      (λ a.
+      let off : isOnClass k ≡ false = rw (f, a) in
+      ap (λ (t : Bool). implies t (implies (isOwn v k) (holds k (sampleOf b) (sampleOf b)))) off
+      ∙ ap (λ (t : Bool). implies t own) (sym a))
+
+  class-of-join : eqb (k .form) 0 ≡ false → classHolds b v k ≡ true
+  unfolding classHolds onClass
+  class-of-join f = rw (f, classHolds)
+
+  -- class and kinds leave nothing of a condition out
+  pub by-kinds : byKinds (classHolds b v k) (λ kind. isOther kind k) own ≡ own
+  unfolding otherOwn
+  by-kinds =
       by-test (eqb (k .form) 0)
-      (λ e.
-      let not-class : eqb (k .attribute) classAttribute ≡ false = sym (ap (λ (t : Bool). t && eqb (k .attribute) classAttribute) e) ∙ off in
-      let class : not (eqb (k .attribute) classAttribute) ≡ false = rw (e, otherOwn) at none in
-      clash (not-not (eqb (k .attribute) classAttribute) class) not-class)
-      (λ e. let two : eqb (k .variable) (k .variable2) ≡ false = rw (e, otherOwn) at none in rw (e, two))
-
-  -- what the sample decides and what is left to the other conditions, for an event of the sample's class
-  class-or-other :
-      (b v : ℕ) (r : Record) → classOf (typesTogether * b) ≡ classOf (r .«event_type»)
-      → classHolds b v k ≡ isOther k || implies (isOwn v k) (holds k r r)
-  unfolding classHolds sampleOf
-  class-or-other b v r e =
-      let sampled : Bool = implies (isOwn v k) (holds k (sampleOf b) (sampleOf b)) in
-      let own : Bool = implies (isOwn v k) (holds k r r) in
-      by-test (isOnClass k)
-      (λ on.
-      ap (λ (t : Bool). implies t sampled) on
-      ∙ ap (implies (isOwn v k)) (on-class-holds on (sampleOf b) r e)
-      ∙ sym (ap (λ (t : Bool). t || own) (on-class-no-other on)))
-      (λ off.
-      ap (λ (t : Bool). implies t sampled) off
-      ∙ by-test (isOther k)
-      (λ o. sym (ap (λ (t : Bool). t || own) o))
-      (λ o. sym (ap₂ (λ (s t : Bool). s || implies t (holds k r r)) o (own-none k (neither-own off o) v))))
-
--- ## The bits that are left
-
-module _ (rest c at : ℕ) (small : rest < 2 ^ c) (here : bit rest at ≡ true) where
-  pub bit-below : at < c
-  bit-below = by-order at c (λ l. l) (λ l. clash here (bit-high rest c at small l))
-
-  -- one bit less is one test more
-  every-less : (h : ℕ → Bool) → every (λ q. bit rest q || h q) c && h at ≡ every (λ q. bit (rest - 2 ^ at) q || h q) c
-  every-less h =
-      let f : ℕ → Bool = λ q. bit rest q || h q in
-      let g : ℕ → Bool = λ q. bit (rest - 2 ^ at) q || h q in
-      let less : (q : ℕ) → bit (rest - 2 ^ at) q ≡ not (eqb at q) && bit rest q = λ q. less-bit rest c at q small here in
-      same-test (every f c && h at) (every g c)
-      (λ e.
-      let p = both (every f c) (h at) e in
-      every-of g c (λ q l.
-      by-test (eqb at q)
-      (λ t. ap (λ (s : Bool). bit (rest - 2 ^ at) q || s) (ap h (sym (eqb-true at q t)) ∙ p .1) ∙ or-true (bit (rest - 2 ^ at) q))
-      (λ t. ap (λ (s : Bool). s || h q) (less q ∙ ap (λ (s : Bool). not s && bit rest q) t) ∙ every-true f c (p .0) q l)))
-      (λ e.
-      ap₂ (λ (s t : Bool). s && t)
-      (every-of f c (λ q l.
-      by-test (bit rest q)
-      (λ t. ap (λ (s : Bool). s || h q) t)
-      (λ t.
-      let gone : bit (rest - 2 ^ at) q ≡ false = less q ∙ ap (λ (s : Bool). not (eqb at q) && s) t ∙ and-false (not (eqb at q)) in
-      ap (λ (s : Bool). s || h q) (t ∙ sym gone) ∙ every-true g c e q l)))
-      (let gone : bit (rest - 2 ^ at) at ≡ false = less at ∙ ap (λ (s : Bool). not s && bit rest at) (eq-eqb at at refl) in
-      sym (ap (λ (s : Bool). s || h at) gone) ∙ every-true g c e at bit-below))
+      (λ f.
+      ap (λ (t : Bool). byKinds t (λ kind. isOther kind k) own) (class-of-form f)
+      ∙ rw (f, otherOwn) (by-constant (k .attribute) few own))
+      (λ f.
+      ap (λ (t : Bool). byKinds t (λ kind. isOther kind k) own) (class-of-join f)
+      ∙ rw (f, otherOwn) (by-sides (eqb (k .variable) (k .variable2)) own (λ s.
+      ap (λ (t : Bool). implies t (holds k r r)) (own-none k (ap₂ (λ (x y : Bool). x || y) f s) v))))
 
 -- ## The variables that can fire
 
 module _ (plan bytes : List ℕ) (i n c : ℕ) where
-  -- the variables whose own conditions hold of record i, but for those whose bits are left
-  abbrev pub heldBut : ℕ → ℕ
-  heldBut rest = mask (λ v. every (λ q. bit rest q || ownHolds plan bytes i v q) c) n
+  abbrev settled : ℕ → ℕ → ℕ
+  settled = settledBy plan n c bytes i
 
-  module _ (classed : Classed plan n c) where
-    pub others-bound : othersIn plan < 2 ^ c
-    unfolding otherMask
-    others-bound = rw (classed .others) (mask-bound (λ q. isOther (conditionIn plan q)) c)
+  abbrev kindHolds : ℕ → ℕ → ℕ → Bool
+  kindHolds kind v = otherHolds plan bytes i kind v
 
-    others-bit : (q : ℕ) → q < c → bit (othersIn plan) q ≡ isOther (conditionIn plan q)
-    unfolding otherMask
-    others-bit q l = ap (λ (x : ℕ). bit x q) (classed .others) ∙ mask-inside (λ j. isOther (conditionIn plan j)) c q l
+  -- nothing is left of nothing
+  settled-nothing : (kind : ℕ) → settled kind 0 ≡ 0
+  unfolding settledBy
+  settled-nothing kind =
+      mask-nothing (λ v. bit 0 v && every (kindHolds kind v) c) n (λ v l. ap (λ (t : Bool). t && every (kindHolds kind v) c) (bit-zero v))
 
-    -- the class settles all but the others
-    pub held-first : (t : ℕ) → t < 256 → t ≡ recordAt bytes i .«event_type» → classIn plan (t / typesTogether) ≡ heldBut (othersIn plan)
-    unfolding classMask ownHolds
-    held-first t h e =
-        let b = t / typesTogether in
-        let small : b < typePlaces = omega arith in
-        classed .byClass b small
-        ∙ mask-same (λ v. every (λ q. classHolds b v (conditionIn plan q)) c) (λ v. every (λ q. bit (othersIn plan) q || ownHolds plan bytes i v q) c) n (λ v l.
-        every-same (λ q. classHolds b v (conditionIn plan q)) (λ q. bit (othersIn plan) q || ownHolds plan bytes i v q) c (λ q m.
-        class-or-other (conditionIn plan q) b v (recordAt bytes i) (same-class t h ∙ ap classOf e)
-        ∙ ap (λ (s : Bool). s || ownHolds plan bytes i v q) (sym (others-bit q m))))
+  pub settled-inside : (kind can : ℕ) → settled kind can < 2 ^ n
+  unfolding settledBy
+  settled-inside kind can = mask-bound (λ v. bit can v && every (kindHolds kind v) c) n
 
-  -- one of the others settled
-  pub held-less :
-      (rest at can s word : ℕ) (r : Record) → rest < 2 ^ c
-      → bit rest at ≡ true
-      → can ≡ heldBut rest
-      → word ≡ getD plan at 0
-      → r ≡ recordAt bytes i
-      → s ≡ settled can (conditionOf word) r
-      → s ≡ heldBut (rest - 2 ^ at)
-  unfolding ownHolds
-  held-less rest at can s word r small here a w e f =
-      f
-      ∙ ap₂ (λ (x : ℕ) (y : Record). settled x (conditionOf word) y) a e
-      ∙ ap (λ (x : ℕ). settled (heldBut rest) (conditionOf x) (recordAt bytes i)) w
-      ∙ settled-mask (conditionIn plan at) (λ v. every (λ q. bit rest q || ownHolds plan bytes i v q) c) n (recordAt bytes i)
-      ∙ mask-same (λ v. every (λ q. bit rest q || ownHolds plan bytes i v q) c && ownHolds plan bytes i v at) (λ v. every (λ q. bit (rest - 2 ^ at) q || ownHolds plan bytes i v q) c) n (λ v l.
-      every-less rest c at small here (ownHolds plan bytes i v))
+  pub class-inside : Classed plan n c → (b : ℕ) → b < typePlaces → classIn plan b < 2 ^ n
+  unfolding classMask
+  class-inside classed b l = rw (classed .byClass b l) (mask-bound (λ v. every (λ q. classHolds b v (conditionIn plan q)) c) n)
 
-  -- all of them
-  pub held-all : (rest : ℕ) → rest ≡ 0 → heldBut rest ≡ canBy plan n c bytes i
-  unfolding canBy
-  held-all rest e =
-      mask-same (λ v. every (λ q. bit rest q || ownHolds plan bytes i v q) c) (λ v. every (ownHolds plan bytes i v) c) n (λ v l.
-      every-same (λ q. bit rest q || ownHolds plan bytes i v q) (ownHolds plan bytes i v) c (λ q m.
-      ap (λ (s : Bool). s || ownHolds plan bytes i v q) (ap (λ (x : ℕ). bit x q) e ∙ bit-zero q)))
+  settled-more : (f : ℕ → Bool) (kind : ℕ) → settled kind (mask f n) ≡ mask (λ v. f v && every (kindHolds kind v) c) n
+  unfolding settledBy
+  settled-more f kind =
+      mask-same (λ v. bit (mask f n) v && every (kindHolds kind v) c) (λ v. f v && every (kindHolds kind v) c) n (λ v l.
+      ap (λ (t : Bool). t && every (kindHolds kind v) c) (mask-inside f n v l))
+
+  -- five kinds of tests together are one
+  every-kind : (a t o s m b : ℕ → Bool) → ((((every a c && every t c) && every o c) && every s c) && every m c) && every b c ≡ every (λ q. ((((a q && t q) && o q) && s q) && m q) && b q) c
+  every-kind a t o s m b =
+      ap (λ (x : Bool). (((x && every o c) && every s c) && every m c) && every b c) (sym (every-both a t c))
+      ∙ ap (λ (x : Bool). ((x && every s c) && every m c) && every b c) (sym (every-both (λ q. a q && t q) o c))
+      ∙ ap (λ (x : Bool). (x && every m c) && every b c) (sym (every-both (λ q. (a q && t q) && o q) s c))
+      ∙ ap (λ (x : Bool). x && every b c) (sym (every-both (λ q. ((a q && t q) && o q) && s q) m c))
+      ∙ sym (every-both (λ q. (((a q && t q) && o q) && s q) && m q) b c)
+
+  -- the class, and then kind by kind
+  pub all-settled :
+      Sound plan → Classed plan n c → c ≤ mostConditions → (t : ℕ) → t < 256 → t ≡ recordAt bytes i .«event_type»
+      → settled bothSides (settled 4 (settled 3 (settled 0 (settled 1 (classIn plan (t / typesTogether)))))) ≡ canBy plan n c bytes i
+  unfolding classMask canBy otherHolds ownHolds
+  all-settled sound classed few t h e =
+      let b = t / typesTogether in
+      let small : b < typePlaces = omega arith in
+      let f0 : ℕ → Bool = λ v. every (λ q. classHolds b v (conditionIn plan q)) c in
+      let f1 : ℕ → Bool = λ v. f0 v && every (kindHolds 1 v) c in
+      let f2 : ℕ → Bool = λ v. f1 v && every (kindHolds 0 v) c in
+      let f3 : ℕ → Bool = λ v. f2 v && every (kindHolds 3 v) c in
+      let f4 : ℕ → Bool = λ v. f3 v && every (kindHolds 4 v) c in
+      ap (λ (x : ℕ). settled bothSides (settled 4 (settled 3 (settled 0 (settled 1 x))))) (classed .byClass b small)
+      ∙ ap (λ (x : ℕ). settled bothSides (settled 4 (settled 3 (settled 0 x)))) (settled-more f0 1)
+      ∙ ap (λ (x : ℕ). settled bothSides (settled 4 (settled 3 x))) (settled-more f1 0)
+      ∙ ap (λ (x : ℕ). settled bothSides (settled 4 x)) (settled-more f2 3)
+      ∙ ap (λ (x : ℕ). settled bothSides x) (settled-more f3 4)
+      ∙ settled-more f4 bothSides
+      ∙ mask-same (λ v. f4 v && every (kindHolds bothSides v) c) (λ v. every (ownHolds plan bytes i v) c) n (λ v l.
+      every-kind (λ q. classHolds b v (conditionIn plan q)) (kindHolds 1 v) (kindHolds 0 v) (kindHolds 3 v) (kindHolds 4 v) (kindHolds bothSides v)
+      ∙ every-same (λ q. byKinds (classHolds b v (conditionIn plan q)) (λ kind. isOther kind (conditionIn plan q)) (ownHolds plan bytes i v q)) (ownHolds plan bytes i v) c (λ q m.
+      by-kinds (conditionIn plan q) (sound .attribute q (omega arith)) b v (recordAt bytes i) (same-class t h ∙ ap classOf e)))
+
+  -- where the types leave no variable, nothing is left at all
+  pub none-settled : (can : ℕ) → can ≡ 0 → settled bothSides (settled 4 (settled 3 (settled 0 can))) ≡ 0
+  none-settled can e =
+      ap (λ (x : ℕ). settled bothSides (settled 4 (settled 3 (settled 0 x)))) e
+      ∙ ap (λ (x : ℕ). settled bothSides (settled 4 (settled 3 x))) (settled-nothing 0)
+      ∙ ap (λ (x : ℕ). settled bothSides (settled 4 x)) (settled-nothing 3)
+      ∙ ap (settled bothSides) (settled-nothing 4)
+      ∙ settled-nothing bothSides

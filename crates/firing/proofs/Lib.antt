@@ -8,3 +8,4 @@ pub mod Slots
 pub mod Joins
 pub mod Seated
 pub mod Classes
+pub mod Settling

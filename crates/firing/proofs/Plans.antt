@@ -1,25 +1,26 @@
 -- What stands at each place of a plan, and that the plan of a pattern in order can be followed. Assumes nothing.
-use mathlib.Core.Path.{_≡_, _∙_, sym, ap, ap₂}
+use mathlib.Core.Path.{_≡_, _∙_, refl, sym, ap, ap₂, subst}
 use mathlib.Core.Bool.{true, not}
 use mathlib.Core.List.{List}
-use Prim.Native.Nat.{ℕ, _+_, _-_, _/_, _%_, _^_, _≤_, _<_}
+use Prim.Native.Nat.{ℕ, _+_, _-_, _*_, _/_, _%_, _^_, _≤_, _<_}
 use native.Mathlib.Nat.{le-refl, lt-of-lt-of-le, not-suc-le-zero}
 use native.Mathlib.Omega.{arith}
 use borrow.Author.Tests.{lt-ltb, le-ltb, ltb-true, eqb-false, not-true}
 use lib.Dec.{eqb, ltb}
 use lib.ListN.{length, getD, set}
 use lib.Pow.{pow-mono}
-use Rattle.numbers.specs.Numbers.{field, every}
+use Rattle.numbers.specs.Numbers.{field, every, oneIf}
 use Rattle.numbers.specs.Bits.{bit}
 use Rattle.numbers.proofs.Cases.{by-order, both}
 use Rattle.numbers.proofs.Every.{every-same}
-use Rattle.numbers.proofs.Bits.{mask-bound, mask-bit, mask-same}
+use Rattle.numbers.proofs.Bits.{mask-bound, mask-bit, mask-inside, mask-same, digit-one}
 use Rattle.patterns.specs.declared.Condition.{Condition}
 use Rattle.patterns.specs.declared.Pattern.{Pattern}
-use Rattle.patterns.specs.Patterns.{mostVariables, mostConditions, conditionOf}
+use Rattle.patterns.specs.Patterns.{mostVariables, mostConditions, lastAttribute, lastOperator, conditionOf}
+use Rattle.patterns.specs.Comparison.{meets}
 use Rattle.patterns.specs.Checked.{conditionAt, InOrder}
 use Rattle.patterns.proofs.Filled.{filled-at, filled-more, filled-length}
-use Rattle.firing.specs.Plan.{planRoom, firstMask, firstJoins, firstClass, othersPlace, typePlaces, maskPlace, wordOf, joins, isJoin, isOther, variableMask, joinMask, classHolds, classMask, otherMask, placeOf, planUpTo, planOf, conditionIn, beforeIn, afterIn, marksIn, joinsIn, classIn, othersIn, Placed, IsPlan, Sound, Classed}
+use Rattle.firing.specs.Plan.{planRoom, firstMask, firstJoins, firstClass, othersPlace, typePlaces, maskPlace, failingOf, firstOrder, wordOf, noCondition, joins, isJoin, isOther, variableMask, joinMask, classHolds, classMask, otherMask, placeOf, planUpTo, planOf, conditionIn, beforeIn, afterIn, marksIn, joinsIn, classIn, othersIn, bothSides, Tells, Placed, IsPlan, Sound, Classed}
 
 -- ## Conditions
 
@@ -46,10 +47,51 @@ fields-back :
 unfolding conditionOf
 fields-back word k a b c d e f g = rw (a, b, c, d, e, f, g)
 
-module _ (k : Condition) (o : Packs k) where
+-- ## The orders that fail
+
+pub failing-bound : (operator : ℕ) → failingOf operator < 8
+unfolding failingOf
+failing-bound operator = mask-bound (λ order. not (meets operator order)) 3
+
+failing-digit : (operator o : ℕ) → o < 3 → failingOf operator / 2 ^ o % 2 ≡ oneIf (not (meets operator o))
+unfolding failingOf
+failing-digit operator o l =
+    let digit = failingOf operator / 2 ^ o % 2 in
+    sym (digit-one digit (omega arith)) ∙ ap oneIf (mask-inside (λ order. not (meets operator order)) 3 o l)
+
+-- three orders
+by-three : (P : ℕ → Type 0) → P 0 → P 1 → P 2 → (o : ℕ) → o < 3 → P o
+by-three P zeroth first second o l =
+    by-order o 1
+    (λ h. let e : 0 ≡ o = omega arith in subst P e zeroth)
+    (λ h. by-order o 2
+    (λ m. let e : 1 ≡ o = omega arith in subst P e first)
+    (λ m. let e : 2 ≡ o = omega arith in subst P e second))
+
+module _ (high failing constant : ℕ) (f : failing < 8) (c : constant < 2 ^ 32) where
+  digit-among : (o : ℕ) → o < 3 → (high * 2 ^ 46 + failing * 2 ^ firstOrder + constant) / 2 ^ (firstOrder + o) % 2 ≡ failing / 2 ^ o % 2
+  digit-among =
+      by-three (λ o. (high * 2 ^ 46 + failing * 2 ^ firstOrder + constant) / 2 ^ (firstOrder + o) % 2 ≡ failing / 2 ^ o % 2)
+      (omega arith)
+      (omega arith)
+      (omega arith)
+
+pub none-tells : Tells noCondition
+unfolding conditionOf
+none-tells =
+    record {
+      order =
+          by-three (λ o. noCondition / 2 ^ (firstOrder + o) % 2 ≡ oneIf (not (meets (conditionOf noCondition .operator) o)))
+          refl
+          refl
+          refl;
+    }
+
+module _ (k : Condition) (p : Packs k) where
   pub word-back : conditionOf (wordOf k) ≡ k
   unfolding wordOf
   word-back =
+      let f = failing-bound (k .operator) in
       fields-back (wordOf k) k
       (omega arith)
       (omega arith)
@@ -58,6 +100,19 @@ module _ (k : Condition) (o : Packs k) where
       (omega arith)
       (omega arith)
       (omega arith)
+
+  pub word-tells : Tells (wordOf k)
+  unfolding wordOf
+  word-tells =
+      let high = ((((k .variable * 8 + k .attribute) * 8 + k .operator) * 2 + k .form) * 16 + k .variable2) * 8 + k .attribute2 in
+      let is : wordOf k ≡ high * 2 ^ 46 + failingOf (k .operator) * 2 ^ firstOrder + k .constant = omega arith in
+      record {
+        order = λ o l.
+            ap (λ (word : ℕ). word / 2 ^ (firstOrder + o) % 2) is
+            ∙ digit-among high (failingOf (k .operator)) (k .constant) (failing-bound (k .operator)) (p .constant) o l
+            ∙ failing-digit (k .operator) o l
+            ∙ ap (λ (j : Condition). oneIf (not (meets (j .operator) o))) (sym word-back);
+      }
 
 pub condition-variable : (word : ℕ) → conditionOf word .variable < 16
 unfolding conditionOf
@@ -74,7 +129,7 @@ module _ (p : Pattern) where
   unfolding placeOf
   place-word i h l = rw (lt-ltb i firstMask h, lt-ltb i (p .c) l, placeOf)
 
-  pub place-none : (i : ℕ) → i < firstMask → p .c ≤ i → placeOf p i ≡ 0
+  pub place-none : (i : ℕ) → i < firstMask → p .c ≤ i → placeOf p i ≡ noCondition
   unfolding placeOf
   place-none i h l = rw (lt-ltb i firstMask h, le-ltb i (p .c) l, placeOf)
 
@@ -91,7 +146,7 @@ module _ (p : Pattern) where
   place-class place h l =
       rw (le-ltb place firstMask (omega arith), le-ltb place firstJoins (omega arith), le-ltb place firstClass h, lt-ltb place othersPlace l, placeOf)
 
-  pub place-others : (place : ℕ) → othersPlace ≤ place → placeOf p place ≡ otherMask (conditionAt p) (p .c)
+  pub place-others : (place : ℕ) → othersPlace ≤ place → placeOf p place ≡ otherMask (conditionAt p) (p .c) (place - othersPlace)
   unfolding placeOf
   place-others place h =
       rw (le-ltb place firstMask (omega arith), le-ltb place firstJoins (omega arith), le-ltb place firstClass (omega arith), le-ltb place othersPlace h, placeOf)
@@ -131,16 +186,19 @@ module _ (p : Pattern) where
       let a : (firstClass + b) - firstClass ≡ b = omega arith in
       plan-place (firstClass + b) (omega arith) ∙ place-class (firstClass + b) (omega arith) (omega arith) ∙ ap (classMask (conditionAt p) (p .n) (p .c)) a
 
-  others-at : getD (planOf p) othersPlace 0 ≡ otherMask (conditionAt p) (p .c)
-  others-at = plan-place othersPlace (omega arith) ∙ place-others othersPlace (omega arith)
+  others-at : (kind : ℕ) → kind ≤ bothSides → getD (planOf p) (othersPlace + kind) 0 ≡ otherMask (conditionAt p) (p .c) kind
+  others-at kind l =
+      let a : (othersPlace + kind) - othersPlace ≡ kind = omega arith in
+      plan-place (othersPlace + kind) (omega arith) ∙ place-others (othersPlace + kind) (omega arith) ∙ ap (otherMask (conditionAt p) (p .c)) a
 
--- the first places give the conditions back
+-- the first places give the conditions back, and tell the orders that fail them
 pub record Backs (p : Pattern) (count : ℕ) : Type 0 where
   pub one : (i : ℕ) → i < count → i < p .c → conditionOf (placeOf p i) ≡ conditionAt p i
+  pub tells : (i : ℕ) → i < count → i < firstMask → Tells (placeOf p i)
 
 module _ (p : Pattern) where
   pub backs-none : Backs p 0
-  backs-none = record { one = λ i h. absurd (not-suc-le-zero h) }
+  backs-none = record { one = λ i h. absurd (not-suc-le-zero h); tells = λ i h. absurd (not-suc-le-zero h) }
 
   pub backs-more : (count number : ℕ) → Backs p count → Placed p count number → Backs p (count + 1)
   backs-more count number b placed =
@@ -151,6 +209,12 @@ module _ (p : Pattern) where
             let e : i ≡ count = omega arith in
             let small : count < p .c = omega arith in
             ap (λ (j : ℕ). conditionOf (placeOf p j)) e ∙ ap conditionOf (sym (placed .is)) ∙ placed .back small ∙ ap (conditionAt p) (sym e));
+        tells = λ i h l.
+            by-order i count (λ m. b .tells i m l)
+            (λ m.
+            let e : count ≡ i = omega arith in
+            let small : count < firstMask = omega arith in
+            subst (λ (j : ℕ). Tells (placeOf p j)) e (subst Tells (placed .is) (placed .tells small)));
       }
 
   pub plan-made : (plan : List ℕ) → p .c ≤ mostConditions → plan ≡ planUpTo p planRoom → Backs p planRoom → IsPlan p plan
@@ -160,6 +224,8 @@ module _ (p : Pattern) where
         made = e;
         condition = λ i l.
             ap (λ (q : List ℕ). conditionIn q i) e ∙ ap conditionOf (plan-place p i (omega arith)) ∙ b .one i (omega arith) l;
+        tells = λ i l.
+            subst Tells (sym (ap (λ (q : List ℕ). getD q i 0) e ∙ plan-place p i (omega arith))) (b .tells i (omega arith) l);
       }
 
 -- ## The plan of a pattern
@@ -190,21 +256,27 @@ module _ (p : Pattern) (o : InOrder p) (plan : List ℕ) (is : IsPlan p plan) wh
       let other = eqb-false (conditionAt p i .form) 0 (not-true (eqb (conditionAt p i .form) 0) (both (not (eqb (conditionAt p i .form) 0)) _ (named .1) .0)) in
       other (sym same ∙ f)
 
-  none-behind : (i : ℕ) → i < mostConditions → p .c ≤ i → conditionIn plan i .operator ≡ 0
-  unfolding conditionOf
+  none-behind : (i : ℕ) → i < mostConditions → p .c ≤ i → conditionIn plan i ≡ conditionOf noCondition
   none-behind i h l =
-      ap (λ (word : ℕ). conditionOf word .operator) (ap (λ (q : List ℕ). getD q i 0) (is .made) ∙ plan-place p i (omega arith) ∙ place-none p i h l)
+      ap conditionOf (ap (λ (q : List ℕ). getD q i 0) (is .made) ∙ plan-place p i (omega arith) ∙ place-none p i h l)
+
+  -- what holds of each of the conditions and of none
+  each-condition : (P : Condition → Type 0) → ((i : ℕ) → i < p .c → P (conditionAt p i)) → P (conditionOf noCondition) → (i : ℕ) → i < mostConditions → P (conditionIn plan i)
+  each-condition P one none i h =
+      by-order i (p .c)
+      (λ l. subst P (sym (is .condition i l)) (one i l))
+      (λ l. subst P (sym (none-behind i h l)) none)
 
   pub sound-plan : Sound plan
+  unfolding conditionOf
   sound-plan =
       record {
         size = ap length (is .made) ∙ plan-length p;
         joins = λ v l. rw (joins-in p plan is v l) (joins-bound v);
         form = joins-named;
-        operator = λ i h.
-            by-order i (p .c)
-            (λ l. rw (is .condition i l) (o .operator i l))
-            (λ l. omega (arith, none-behind i h l));
+        attribute = each-condition (λ k. k .attribute ≤ lastAttribute) (o .attribute) (omega arith);
+        operator = each-condition (λ k. k .operator ≤ lastOperator) (o .operator) (omega arith);
+        tells = is .tells;
       }
 
   -- the plan's masks by class and of the others are those of its own conditions
@@ -217,7 +289,7 @@ module _ (p : Pattern) (o : InOrder p) (plan : List ℕ) (is : IsPlan p plan) wh
             ∙ mask-same (λ v. every (λ i. classHolds b v (conditionAt p i)) (p .c)) (λ v. every (λ i. classHolds b v (conditionIn plan i)) (p .c)) (p .n) (λ v m.
             every-same (λ i. classHolds b v (conditionAt p i)) (λ i. classHolds b v (conditionIn plan i)) (p .c) (λ i h.
             ap (classHolds b v) (sym (is .condition i h))));
-        others =
-            ap othersIn (is .made) ∙ others-at p
-            ∙ mask-same (λ i. isOther (conditionAt p i)) (λ i. isOther (conditionIn plan i)) (p .c) (λ i h. ap isOther (sym (is .condition i h)));
+        others = λ kind l.
+            ap (λ (q : List ℕ). othersIn q kind) (is .made) ∙ others-at p kind l
+            ∙ mask-same (λ i. isOther kind (conditionAt p i)) (λ i. isOther kind (conditionIn plan i)) (p .c) (λ i h. ap (isOther kind) (sym (is .condition i h)));
       }

@@ -14,13 +14,13 @@ use Rattle.records.specs.declared.Record.{Record}
 use Rattle.records.specs.Records.{recordBytes, recordAt}
 use Rattle.patterns.specs.declared.Condition.{Condition}
 use Rattle.patterns.specs.declared.Pattern.{Pattern}
-use Rattle.patterns.specs.Patterns.{mostConditions}
-use Rattle.patterns.specs.Comparison.{value, orderOf, meets, holds, raise}
+use Rattle.patterns.specs.Patterns.{mostVariables, mostConditions}
+use Rattle.patterns.specs.Comparison.{value, constantValue, orderOf, meets, holds, raise}
 use Rattle.automaton.specs.Lists.{implies, all}
 use Rattle.rule.specs.Rule.{Binding, Reading, lastOf}
 use Rattle.rule.specs.Promises.{mostBindings}
 use Rattle.slots.specs.Slots.{Held, slotBytes, countIn, stateIn, bindingsIn}
-use Rattle.firing.specs.Plan.{isOwn, isOnClass, conditionIn, beforeIn, afterIn, marksIn, joinsIn, Sound}
+use Rattle.firing.specs.Plan.{isOwn, isOnClass, isOther, conditionIn, beforeIn, afterIn, marksIn, joinsIn, Sound, Classed}
 
 -- ## Once a record
 
@@ -44,6 +44,32 @@ settled can k r =
 -- the same where k is on class, and all of the mask where it is not
 unfoldable pub settledOnClass : ℕ → Condition → Record → ℕ
 settledOnClass can k r = elim (isOnClass k) [ true ↦ settled can k r | false ↦ can ]
+
+-- the mask without the variable of condition k, where k compares an attribute with the constant and fails of x, the
+-- attribute's value raised
+unfoldable pub settledValue : ℕ → Condition → ℕ → ℕ
+settledValue can k x =
+    elim (meets (k .operator) (orderOf (pos x) (pos (raise (constantValue (k .attribute) (k .constant)))))) [
+      | true ↦ can
+      | false ↦ can - oneIf (bit can (k .variable)) * 2 ^ k .variable
+    ]
+
+-- condition k of the plan holds of record i for v, if it is one of the kind that looks at the new event alone
+unfoldable pub otherHolds : List ℕ → List ℕ → ℕ → ℕ → ℕ → ℕ → Bool
+otherHolds plan bytes i kind v k = implies (isOther kind (conditionIn plan k)) (ownHolds plan bytes i v k)
+
+-- the variables of a mask whose conditions of a kind hold of record i
+unfoldable pub settledBy : List ℕ → ℕ → ℕ → List ℕ → ℕ → ℕ → ℕ → ℕ
+settledBy plan n c bytes i kind can = mask (λ v. bit can v && every (otherHolds plan bytes i kind v) c) n
+
+-- a plan of n variables and c conditions, a mask of the variables, and record i of a block
+pub record Settling (plan : List ℕ) (n c can : ℕ) (bytes : List ℕ) (i : ℕ) : Type 0 where
+  pub sound : Sound plan
+  pub classed : Classed plan n c
+  pub variables : n ≤ mostVariables
+  pub conditions : c ≤ mostConditions
+  pub inside : can < 2 ^ n
+  pub here : recordBytes * i + recordBytes ≤ length bytes
 
 -- ## Once a reading
 

@@ -1,28 +1,37 @@
--- What a pass prepares once a call: a plan, 97 numbers of 64 bits made of the checked pattern. The first 32 are the
--- conditions as document 01 packs them; behind them stand four masks for each variable, then for each 16 event types the
--- variables whose conditions on class hold of them, and last the conditions that each event has yet to be asked.
+-- What a pass prepares once a call: a plan, 102 numbers of 64 bits made of the checked pattern. The first 32 are the
+-- conditions as document 01 packs them, with what orders fail them among the zeros; behind them stand four masks for each
+-- variable, then for each 16 event types the variables whose conditions on class hold of them, and last, by kind, the
+-- conditions that each event has yet to be asked.
 use mathlib.Core.Path.{_≡_}
 use mathlib.Core.Bool.{Bool, true, false, not, _&&_, _||_}
 use mathlib.Core.List.{List}
 use Prim.Native.Nat.{ℕ, _+_, _-_, _*_, _/_, _%_, _^_, _<_, _≤_}
 use lib.Dec.{eqb, ltb, leb}
 use lib.ListN.{length, getD}
-use Rattle.numbers.specs.Numbers.{every}
+use Rattle.numbers.specs.Numbers.{every, oneIf}
 use Rattle.numbers.specs.Bits.{mask, bit}
 use Rattle.records.specs.declared.Record.{Record}
 use Rattle.patterns.specs.declared.Condition.{Condition}
 use Rattle.patterns.specs.declared.Pattern.{Pattern}
-use Rattle.patterns.specs.Patterns.{mostVariables, mostConditions, lastOperator, conditionOf}
+use Rattle.patterns.specs.Patterns.{mostVariables, mostConditions, lastAttribute, lastOperator, conditionOf}
 use Rattle.patterns.specs.Checked.{filled, conditionAt, setOf, isGroup}
-use Rattle.patterns.specs.Comparison.{holds}
+use Rattle.patterns.specs.Comparison.{meets, holds}
 use Rattle.automaton.specs.Lists.{implies}
 
 abbrev pub planRoom : ℕ
-planRoom = 97
+planRoom = 102
 
 -- ## The conditions
 
--- variable 4, attribute 3, operator 3, form 1, second variable 4, second attribute 3, zero 14, constant 32
+-- the orders that fail an operator, bit o for order o
+unfoldable pub failingOf : ℕ → ℕ
+failingOf operator = mask (λ order. not (meets operator order)) 3
+
+abbrev pub firstOrder : ℕ
+firstOrder = 43
+
+-- variable 4, attribute 3, operator 3, form 1, second variable 4, second attribute 3, the orders that fail the operator 3,
+-- zero 11, constant 32
 unfoldable pub wordOf : Condition → ℕ
 wordOf k =
     k .variable * 2 ^ 60
@@ -31,12 +40,22 @@ wordOf k =
     + k .form * 2 ^ 53
     + k .variable2 * 2 ^ 49
     + k .attribute2 * 2 ^ 46
+    + failingOf (k .operator) * 2 ^ firstOrder
     + k .constant
+
+-- 64 bits that tell of each order whether it fails their condition's operator
+pub record Tells (word : ℕ) : Type 0 where
+  pub order : (o : ℕ) → o < 3 → word / 2 ^ (firstOrder + o) % 2 ≡ oneIf (not (meets (conditionOf word .operator) o))
 
 -- the 64 bits of condition k, which give it back
 pub record IsWord (k : Condition) (word : ℕ) : Type 0 where
   pub packed : word ≡ wordOf k
   pub back : conditionOf word ≡ k
+  pub tells : Tells word
+
+-- what stands where there is no condition: operator 0, which an equal order alone meets
+abbrev pub noCondition : ℕ
+noCondition = 5 * 2 ^ firstOrder
 
 -- condition k looks at the new event for v alone: it compares v with the constant, or names v on both sides
 unfoldable pub isOwn : ℕ → Condition → Bool
@@ -88,13 +107,21 @@ onClass form attribute = eqb form 0 && eqb attribute classAttribute
 abbrev pub isOnClass : Condition → Bool
 isOnClass k = onClass (k .form) (k .attribute)
 
--- any other condition that looks at one event alone: of form 0 on another attribute, or with one variable on both sides
-unfoldable pub otherOwn : ℕ → ℕ → ℕ → ℕ → Bool
-otherOwn form variable variable2 attribute =
-    elim (eqb form 0) [ true ↦ not (eqb attribute classAttribute) | false ↦ eqb variable variable2 ]
+-- the kind of the conditions with one variable on both sides
+abbrev pub bothSides : ℕ
+bothSides = 5
 
-abbrev pub isOther : Condition → Bool
-isOther k = otherOwn (k .form) (k .variable) (k .variable2) (k .attribute)
+-- any other condition that looks at one event alone, by kind: of form 0 the attribute, but for class; else one variable on
+-- both sides
+unfoldable pub otherOwn : ℕ → ℕ → ℕ → ℕ → ℕ → Bool
+otherOwn kind form variable variable2 attribute =
+    elim (eqb form 0) [
+      | true ↦ eqb attribute kind && not (eqb attribute classAttribute)
+      | false ↦ eqb kind bothSides && eqb variable variable2
+    ]
+
+abbrev pub isOther : ℕ → Condition → Bool
+isOther kind k = otherOwn kind (k .form) (k .variable) (k .variable2) (k .attribute)
 
 -- a place of the plan serves 16 event types: those from 16 * b on, all of one class
 abbrev pub typesTogether : ℕ
@@ -124,9 +151,9 @@ classHolds b v k = implies (isOnClass k) (implies (isOwn v k) (holds k (sampleOf
 unfoldable pub classMask : (ℕ → Condition) → ℕ → ℕ → ℕ → ℕ
 classMask condition n c b = mask (λ v. every (λ i. classHolds b v (condition i)) c) n
 
--- the other conditions that look at one event alone, of c conditions, bit i for condition i
-unfoldable pub otherMask : (ℕ → Condition) → ℕ → ℕ
-otherMask condition c = mask (λ i. isOther (condition i)) c
+-- the other conditions of a kind, of c conditions, bit i for condition i
+unfoldable pub otherMask : (ℕ → Condition) → ℕ → ℕ → ℕ
+otherMask condition c kind = mask (λ i. isOther kind (condition i)) c
 
 -- ## The plan
 
@@ -149,14 +176,14 @@ othersPlace = 96
 unfoldable pub placeOf : Pattern → ℕ → ℕ
 placeOf p place =
     elim (ltb place firstMask) [
-      | true ↦ elim (ltb place (p .c)) [ true ↦ wordOf (conditionAt p place) | false ↦ 0 ]
+      | true ↦ elim (ltb place (p .c)) [ true ↦ wordOf (conditionAt p place) | false ↦ noCondition ]
       | false ↦ elim (ltb place firstJoins) [
         | true ↦ variableMask p ((place - firstMask) / mostVariables) ((place - firstMask) % mostVariables)
         | false ↦ elim (ltb place firstClass) [
           | true ↦ joinMask p (place - firstJoins)
           | false ↦ elim (ltb place othersPlace) [
             | true ↦ classMask (conditionAt p) (p .n) (p .c) (place - firstClass)
-            | false ↦ otherMask (conditionAt p) (p .c)
+            | false ↦ otherMask (conditionAt p) (p .c) (place - othersPlace)
           ]
         ]
       ]
@@ -166,6 +193,7 @@ placeOf p place =
 pub record Placed (p : Pattern) (place number : ℕ) : Type 0 where
   pub is : number ≡ placeOf p place
   pub back : place < p .c → conditionOf number ≡ conditionAt p place
+  pub tells : place < firstMask → Tells number
 
 -- the first places of the plan, the others 0
 unfoldable pub planUpTo : Pattern → ℕ → List ℕ
@@ -194,23 +222,26 @@ joinsIn plan v = getD plan (firstJoins + v) 0
 abbrev pub classIn : List ℕ → ℕ → ℕ
 classIn plan b = getD plan (firstClass + b) 0
 
-abbrev pub othersIn : List ℕ → ℕ
-othersIn plan = getD plan othersPlace 0
+abbrev pub othersIn : List ℕ → ℕ → ℕ
+othersIn plan kind = getD plan (othersPlace + kind) 0
 
 -- the plan of p: its first places give the conditions back
 pub record IsPlan (p : Pattern) (plan : List ℕ) : Type 0 where
   pub made : plan ≡ planOf p
   pub condition : (i : ℕ) → i < p .c → conditionIn plan i ≡ conditionAt p i
+  pub tells : (i : ℕ) → i < mostConditions → Tells (getD plan i 0)
 
 -- a plan that can be followed: no mask of conditions names one behind the last or one of form 0, and each condition has
--- one of the operators
+-- one of the attributes and operators, and tells the orders that fail it
 pub record Sound (plan : List ℕ) : Type 0 where
   pub size : length plan ≡ planRoom
   pub joins : (v : ℕ) → v < mostVariables → joinsIn plan v < 2 ^ mostConditions
   pub form : (v i : ℕ) → v < mostVariables → bit (joinsIn plan v) i ≡ true → conditionIn plan i .form ≡ 0 → ⊥
+  pub attribute : (i : ℕ) → i < mostConditions → conditionIn plan i .attribute ≤ lastAttribute
   pub operator : (i : ℕ) → i < mostConditions → conditionIn plan i .operator ≤ lastOperator
+  pub tells : (i : ℕ) → i < mostConditions → Tells (getD plan i 0)
 
 -- a plan that has settled the conditions on class of n variables and c conditions, and names the others
 pub record Classed (plan : List ℕ) (n c : ℕ) : Type 0 where
   pub byClass : (b : ℕ) → b < typePlaces → classIn plan b ≡ classMask (conditionIn plan) n c b
-  pub others : othersIn plan ≡ otherMask (conditionIn plan) c
+  pub others : (kind : ℕ) → kind ≤ bothSides → othersIn plan kind ≡ otherMask (conditionIn plan) c kind

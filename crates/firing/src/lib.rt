@@ -1,32 +1,51 @@
 // Whether a step fires, in the parts that a pass settles one by one: a plan with the conditions on class once a call, the
 // new event's other own conditions once a record, the rest once a reading.
 ghost use mathlib.Core.Path.{_≡_};
-ghost use mathlib.Core.Bool.{true, false, _||_};
+ghost use mathlib.Core.Bool.{true, false, not, _||_};
 ghost use Prim.Native.Nat.{_+_, _-_, _*_, _/_, _%_, _^_, _<_, _≤_};
 ghost use lib.Dec.{eqb};
+ghost use lib.IntN.{pos};
 ghost use lib.ListN.{length};
-ghost use Rattle.numbers.specs.Numbers.{number};
+ghost use Rattle.numbers.specs.Numbers.{number, oneIf};
 ghost use Rattle.records.specs.Records.{recordBytes, recordAt};
 ghost use Rattle.patterns.specs.Patterns.{mostVariables, mostConditions, lastOperator, conditionOf};
 ghost use Rattle.patterns.specs.Checked.{InOrder, conditionAt};
-ghost use Rattle.patterns.specs.Comparison.{value, raise};
+ghost use Rattle.patterns.specs.Comparison.{value, orderOf, meets, raise};
 ghost use Rattle.slots.specs.Slots.{bindingOf, bindingsIn, countIn, heldIn};
-ghost use Rattle.firing.specs.Plan.{planRoom, joins, standing, variableMask, joinMask, onClass, otherOwn, sampleOf, typePlaces, classMask, otherMask, IsWord, Placed, IsPlan, Sound, Classed};
-ghost use Rattle.firing.specs.Firing.{settled, settledOnClass, canBy, leavesBy, laterBy, sideOf, testedBy, pairMeets, joinsBy, agreesBy, Fit};
+ghost use Rattle.firing.specs.Plan.{planRoom, joins, standing, variableMask, joinMask, onClass, failingOf, bothSides, otherOwn, sampleOf, typePlaces, classMask, otherMask, Tells, IsWord, Placed, IsPlan, Sound, Classed};
+ghost use Rattle.firing.specs.Firing.{settled, settledOnClass, settledValue, settledBy, Settling, canBy, leavesBy, laterBy, sideOf, testedBy, pairMeets, joinsBy, agreesBy, Fit};
 use patterns::Condition;
 use patterns::Pattern;
 use records::Record;
 
 // ## The plan
 
-const PLAN_ROOM: usize = 97;
+const PLAN_ROOM: usize = 102;
 
 const MOST_VARIABLES: usize = 12;
 
 const RECORD_BYTES: usize = 16;
 
-// The attribute class.
+// The attributes.
+const CORE: u8 = 0;
+
+const TYPE: u8 = 1;
+
 const CLASS: u8 = 2;
+
+const SLOT: u8 = 3;
+
+const AMOUNT: u8 = 4;
+
+// The kind of the conditions with one variable on both sides; below it each attribute is the kind of those that compare it
+// with the constant.
+const BOTH_SIDES: u8 = 5;
+
+// Where a condition's 64 bits tell which orders fail its operator.
+const FIRST_ORDER: usize = 43;
+
+// What stands in the place of no condition: one that asks nothing else than an equal order.
+const NO_CONDITION: u64 = 43980465111040;
 
 // How many event types one after the other share a place of the plan: all of them are of one class.
 const TYPES_TOGETHER: usize = 16;
@@ -44,7 +63,21 @@ const FIRST_CLASS: usize = 80;
 
 const OTHERS: usize = 96;
 
-// A condition as its 64 bits.
+// Which orders fail an operator, a bit for each.
+fn failing(operator: u8) -> u64
+    requires { ⌜ operator ≤ lastOperator ⌝ }
+    ensures { λ r. ⌜ r ≡ failingOf operator ⌝ }
+{
+    let mut bits: u64 = 0;
+    let mut o = 0;
+    while o < 3 {
+        bits = bits + numbers::weight_if(!patterns::order_meets(operator as usize, o), o);
+        o += 1;
+    }
+    bits
+}
+
+// A condition as its 64 bits, which tell the orders that fail its operator too.
 fn word_of(
     variable: u8,
     attribute: u8,
@@ -54,12 +87,12 @@ fn word_of(
     attribute2: u8,
     constant: u32,
 ) -> u64
-    requires { ⌜ (variable < 16) × (attribute < 8) × (operator < 8) × (form < 2) × (variable2 < 16) × (attribute2 < 8) ⌝ }
+    requires { ⌜ (variable < 16) × (attribute < 8) × (operator ≤ lastOperator) × (form < 2) × (variable2 < 16) × (attribute2 < 8) ⌝ }
     ensures { λ r. ⌜ IsWord (record { variable = variable; attribute = attribute; operator = operator; form = form; variable2 = variable2; attribute2 = attribute2; constant = constant }) r ⌝ }
 {
     let first = (variable as u64 * 8 + attribute as u64) * 8 + operator as u64;
     let second = ((first * 2 + form as u64) * 16 + variable2 as u64) * 8 + attribute2 as u64;
-    second * 70368744177664 + constant as u64
+    (second * 8 + failing(operator)) * 8796093022208 + constant as u64
 }
 
 // Condition i as its 64 bits.
@@ -228,20 +261,26 @@ fn class_mask(p: Pattern, b: usize) -> u64
     can
 }
 
-// Whether a condition looks at one event alone and is not settled by the event's class.
-fn is_other(form: u8, variable: u8, variable2: u8, attribute: u8) -> bool
-    ensures { λ r. ⌜ r ≡ otherOwn form variable variable2 attribute ⌝ }
+// Whether a condition that looks at one event alone and is not settled by the event's class is of a kind.
+fn is_other(kind: u8, form: u8, variable: u8, variable2: u8, attribute: u8) -> bool
+    ensures { λ r. ⌜ r ≡ otherOwn kind form variable variable2 attribute ⌝ }
 {
     if form != 0 {
+        if kind != BOTH_SIDES {
+            return false;
+        }
         return variable == variable2;
+    }
+    if attribute != kind {
+        return false;
     }
     attribute != CLASS
 }
 
-// The conditions that look at one event alone and are not settled by its class.
-fn other_mask(p: Pattern) -> u64
+// The conditions of a kind.
+fn other_mask(p: Pattern, kind: u8) -> u64
     requires { ⌜ p .c ≤ mostConditions ⌝ }
-    ensures { λ r. ⌜ r ≡ otherMask (conditionAt p) (p .c) ⌝ }
+    ensures { λ r. ⌜ r ≡ otherMask (conditionAt p) (p .c) kind ⌝ }
 {
     let c = p.c;
     let mut bits: u64 = 0;
@@ -249,7 +288,13 @@ fn other_mask(p: Pattern) -> u64
     while i < c {
         bits = bits
             + numbers::weight_if(
-                is_other(p.forms[i], p.variables[i], p.variables2[i], p.attributes[i]),
+                is_other(
+                    kind,
+                    p.forms[i],
+                    p.variables[i],
+                    p.variables2[i],
+                    p.attributes[i],
+                ),
                 i,
             );
         i += 1;
@@ -268,7 +313,7 @@ fn place(p: Pattern, at: usize) -> u64
         if at < p.c {
             return word_at(p, at);
         }
-        return 0;
+        return NO_CONDITION;
     }
     if at < FIRST_JOINS {
         let beyond = at - FIRST_MASK;
@@ -280,15 +325,15 @@ fn place(p: Pattern, at: usize) -> u64
     if at < OTHERS {
         return class_mask(p, at - FIRST_CLASS);
     }
-    other_mask(p)
+    other_mask(p, (at - OTHERS) as u8)
 }
 
 // What a pass prepares once a call.
-pub fn plan_of(p: Pattern) -> [u64; 97]
+pub fn plan_of(p: Pattern) -> [u64; 102]
     requires { ⌜ InOrder p ⌝ }
     ensures { λ r. ⌜ IsPlan p r ⌝ }
 {
-    let mut plan = [0u64; 97];
+    let mut plan = [0u64; 102];
     let mut at = 0;
     while at < PLAN_ROOM {
         plan[at] = place(p, at);
@@ -299,27 +344,90 @@ pub fn plan_of(p: Pattern) -> [u64; 97]
 
 // ## Once a record
 
+// 1 where x does not stand to y as the operator of a condition's 64 bits says, else 0.
+fn fails(word: u64, x: u64, y: u64) -> u64
+    requires { ⌜ Tells word ⌝ }
+    ensures { λ r. ⌜ r ≡ oneIf (not (meets (conditionOf word .operator) (orderOf (pos x) (pos y)))) ⌝ }
+{
+    (word >> (FIRST_ORDER + patterns::order(x, y))) % 2
+}
+
+// The mask without the variable of a condition that compares an attribute with the constant, where x, the attribute's
+// value raised, fails it.
+fn settle_value(can: u64, word: u64, attribute: u8, x: u64) -> u64
+    requires { ⌜ Tells word × (conditionOf word .attribute ≡ attribute) ⌝ }
+    ensures { λ s. ⌜ s ≡ settledValue can (conditionOf word) x ⌝ }
+{
+    let k = patterns::unpack_condition(word);
+    let y = patterns::raised_constant(attribute, k.constant);
+    let lost = fails(word, x, y) * numbers::weight(k.variable as usize);
+    can - (can & lost)
+}
+
+// The variables of the mask whose conditions that compare an attribute with the constant hold of record i.
+fn settle_attribute(
+    plan: &[u64; 102],
+    n: usize,
+    c: usize,
+    can: u64,
+    attribute: u8,
+    block: &[u8],
+    i: usize,
+) -> u64
+    requires { ⌜ Settling (now plan) n c can (now block) i × (attribute < bothSides) ⌝ }
+    ensures { λ r. ⌜ r ≡ settledBy (now (plan .entry)) n c (now (block .entry)) i attribute can ⌝ }
+{
+    let mut rest = plan[OTHERS + attribute as usize];
+    if rest == 0 {
+        return can;
+    }
+    let x = patterns::raised_value(attribute, records::unpack(block, i));
+    let mut left = can;
+    while rest != 0 {
+        let at = numbers::lowest_bit(rest);
+        left = settle_value(left, plan[at], attribute, x);
+        rest = numbers::without_lowest(rest);
+    }
+    left
+}
+
+// The variables of the mask whose conditions with one variable on both sides hold of record i.
+fn settle_both(plan: &[u64; 102], n: usize, c: usize, can: u64, block: &[u8], i: usize) -> u64
+    requires { ⌜ Settling (now plan) n c can (now block) i ⌝ }
+    ensures { λ r. ⌜ r ≡ settledBy (now (plan .entry)) n c (now (block .entry)) i bothSides can ⌝ }
+{
+    let mut rest = plan[OTHERS + BOTH_SIDES as usize];
+    let mut left = can;
+    while rest != 0 {
+        let at = numbers::lowest_bit(rest);
+        left = settle(left, plan[at], records::unpack(block, i));
+        rest = numbers::without_lowest(rest);
+    }
+    left
+}
+
 // The variables whose own conditions hold of record i, by the plan of a pattern of n variables and c conditions. The plan
-// has settled those on class; the others are settled here.
-pub fn can_fire(plan: &[u64; 97], n: usize, c: usize, block: &[u8], i: usize) -> u64
+// has settled those on class; the others are settled here, kind by kind.
+pub fn can_fire(plan: &[u64; 102], n: usize, c: usize, block: &[u8], i: usize) -> u64
     requires { ⌜ Sound (now plan) × Classed (now plan) n c × (n ≤ mostVariables) × (c ≤ mostConditions) × (recordBytes * i + recordBytes ≤ length (now block)) ⌝ }
     ensures { λ r. ⌜ (r ≡ canBy (now (plan .entry)) n c (now (block .entry)) i) × (r < 2 ^ n) ⌝ }
 {
     let event_type = numbers::byte(block, RECORD_BYTES * i + 1) as usize;
-    let mut can = plan[FIRST_CLASS + event_type / TYPES_TOGETHER];
-    let mut rest = plan[OTHERS];
-    while rest != 0 {
-        let at = numbers::lowest_bit(rest);
-        can = settle(can, plan[at], records::unpack(block, i));
-        rest = rest - numbers::weight(at);
+    let by_class = plan[FIRST_CLASS + event_type / TYPES_TOGETHER];
+    let by_type = settle_attribute(plan, n, c, by_class, TYPE, block, i);
+    if by_type == 0 {
+        return 0;
     }
-    can
+    let by_core = settle_attribute(plan, n, c, by_type, CORE, block, i);
+    let by_slot = settle_attribute(plan, n, c, by_core, SLOT, block, i);
+    let by_amount = settle_attribute(plan, n, c, by_slot, AMOUNT, block, i);
+    settle_both(plan, n, c, by_amount, block, i)
 }
 
 // ## Once a reading
 
 // Whether v leaves the state: it loops, or it opens.
-pub fn leaves(plan: &[u64; 97], state: u64, v: usize) -> bool
+pub fn leaves(plan: &[u64; 102], state: u64, v: usize) -> bool
     requires { ⌜ (length (now plan) ≡ planRoom) × (v < mostVariables) ⌝ }
     ensures { λ r. ⌜ r ≡ leavesBy (now (plan .entry)) state v ⌝ }
 {
@@ -330,7 +438,7 @@ pub fn leaves(plan: &[u64; 97], state: u64, v: usize) -> bool
 }
 
 // Whether record i is later than everything bound, where the order mark asks it.
-pub fn is_later(plan: &[u64; 97], block: &[u8], i: usize, v: usize, slot: &[u8]) -> bool
+pub fn is_later(plan: &[u64; 102], block: &[u8], i: usize, v: usize, slot: &[u8]) -> bool
     requires { ⌜ Fit (now plan) (now block) i (now slot) × (v < mostVariables) ⌝ }
     ensures { λ r. ⌜ r ≡ laterBy (now (plan .entry)) (now (block .entry)) i v (heldIn (now (slot .entry))) ⌝ }
 {
@@ -373,9 +481,17 @@ fn tested(k: Condition, v: usize, state: u64, count: usize) -> usize
     0
 }
 
-// Whether a condition that joins v holds with binding j, x being the new event's value, raised.
-fn pair_holds(block: &[u8], slot: &[u8], j: usize, k: Condition, v: usize, x: u64) -> bool
-    requires { ⌜ (k .operator < 5) × (4 + 2 * j + 2 ≤ length (now slot)) × (recordBytes * (number (now slot) (4 + 2 * j) 2 % 2 ^ 12) + recordBytes ≤ length (now block)) ⌝ }
+// Whether a condition that joins v, with its 64 bits, holds with binding j, x being the new event's value, raised.
+fn pair_holds(
+    block: &[u8],
+    slot: &[u8],
+    j: usize,
+    word: u64,
+    k: Condition,
+    v: usize,
+    x: u64,
+) -> bool
+    requires { ⌜ Tells word × (k ≡ conditionOf word) × (4 + 2 * j + 2 ≤ length (now slot)) × (recordBytes * (number (now slot) (4 + 2 * j) 2 % 2 ^ 12) + recordBytes ≤ length (now block)) ⌝ }
     ensures { λ r. ⌜ r ≡ pairMeets (now (block .entry)) x v k (bindingOf (number (now (slot .entry)) (4 + 2 * j) 2)) ⌝ }
 {
     let u = slots::binding_variable(slot, j);
@@ -384,25 +500,19 @@ fn pair_holds(block: &[u8], slot: &[u8], j: usize, k: Condition, v: usize, x: u6
         if u != k.variable2 as usize {
             return true;
         }
-        return patterns::compare(
-            k.operator,
-            x,
-            patterns::raised_value(k.attribute2, records::unpack(block, at)),
-        );
+        let y = patterns::raised_value(k.attribute2, records::unpack(block, at));
+        return fails(word, x, y) == 0;
     }
     if u != k.variable as usize {
         return true;
     }
-    patterns::compare(
-        k.operator,
-        patterns::raised_value(k.attribute, records::unpack(block, at)),
-        x,
-    )
+    let y = patterns::raised_value(k.attribute, records::unpack(block, at));
+    fails(word, y, x) == 0
 }
 
 // Whether every condition that joins v holds of record i with each earlier binding of the other variable. Every
 // combination is tested, and the first that fails settles it.
-pub fn joins_hold(plan: &[u64; 97], block: &[u8], i: usize, v: usize, slot: &[u8]) -> bool
+pub fn joins_hold(plan: &[u64; 102], block: &[u8], i: usize, v: usize, slot: &[u8]) -> bool
     requires { ⌜ Fit (now plan) (now block) i (now slot) × (v < mostVariables) ⌝ }
     ensures { λ r. ⌜ r ≡ joinsBy (now (plan .entry)) (now (block .entry)) i v (bindingsIn (now (slot .entry)) (countIn (now (slot .entry)))) ⌝ }
 {
@@ -415,12 +525,13 @@ pub fn joins_hold(plan: &[u64; 97], block: &[u8], i: usize, v: usize, slot: &[u8
     let mut hold = true;
     'conditions: while rest != 0 {
         let at = numbers::lowest_bit(rest);
-        let k = patterns::unpack_condition(plan[at]);
+        let word = plan[at];
+        let k = patterns::unpack_condition(word);
         let x = new_value(k, v, block, i);
         let end = tested(k, v, state, count);
         let mut j: usize = 0;
         while j < end {
-            if !pair_holds(block, slot, j, k, v, x) {
+            if !pair_holds(block, slot, j, word, k, v, x) {
                 hold = false;
                 break 'conditions;
             }
@@ -432,7 +543,7 @@ pub fn joins_hold(plan: &[u64; 97], block: &[u8], i: usize, v: usize, slot: &[u8
 }
 
 // Whether record i meets the order mark and every condition that joins v, for the slot's reading.
-pub fn agrees(plan: &[u64; 97], block: &[u8], i: usize, v: usize, slot: &[u8]) -> bool
+pub fn agrees(plan: &[u64; 102], block: &[u8], i: usize, v: usize, slot: &[u8]) -> bool
     requires { ⌜ Fit (now plan) (now block) i (now slot) × (v < mostVariables) ⌝ }
     ensures { λ r. ⌜ r ≡ agreesBy (now (plan .entry)) (now (block .entry)) i v (heldIn (now (slot .entry))) ⌝ }
 {

@@ -21,11 +21,11 @@ use Rattle.firing.proofs.joins_hold.Statement.{statement}
 use Rattle.firing.proofs.joins_hold.Tie as tie
 
 abbrev Inv-loop : tie.InvT-loop
-Inv-loop plan block i v slot rest state count hold₀ at k x end j₀ hold j =
+Inv-loop plan block i v slot rest state count hold₀ at word k x end j₀ hold j =
     (hold ≡ true) × (j ≤ end) × (all (pairMeets block x v (conditionIn plan at)) (bindingsIn slot j) ≡ true)
 
 abbrev μ-loop : tie.MeasureT-loop
-μ-loop plan block i v slot rest state count hold₀ at k x end j₀ hold j = end - j
+μ-loop plan block i v slot rest state count hold₀ at word k x end j₀ hold j = end - j
 
 abbrev Inv-conditions : tie.InvT-conditions
 Inv-conditions plan block i v slot rest₀ state count hold₀ rest hold =
@@ -64,12 +64,12 @@ conditions-holds c =
 lowest-bit-requires : tie.Need-lowest-bit-requires Inv-loop μ-loop Inv-conditions μ-conditions
 lowest-bit-requires c κs = omega arith
 
-mul-unpack-condition : tie.Need-mul-unpack-condition Inv-loop μ-loop Inv-conditions μ-conditions
-mul-unpack-condition c = let s = c .lowest-bit .ensures .small in omega arith
+mul-word : tie.Need-mul-word Inv-loop μ-loop Inv-conditions μ-conditions
+mul-word c = let s = c .lowest-bit .ensures .small in omega arith
 
-element-copy-out-unpack-condition :
-    tie.Need-element-copy-out-unpack-condition Inv-loop μ-loop Inv-conditions μ-conditions
-element-copy-out-unpack-condition c =
+element-copy-out-word :
+    tie.Need-element-copy-out-word Inv-loop μ-loop Inv-conditions μ-conditions
+element-copy-out-word c =
     let s = c .lowest-bit .ensures .small in
     let size = c .before .before .before .before .before .before .before .before .before .pre .0 .sound .size in
     omega arith
@@ -109,12 +109,11 @@ pair-holds-requires c κs =
     let m = c .before .loop in
     let size = fit .seated .size in
     let few = fit .seated .few in
-    let operator = ap (λ (q : Condition). q .operator) (c .before .before .before .before .unpack-condition .ensures) in
-    let known = fit .sound .operator at (left-below (a .plan .now) (a .block .now) (a .i) (a .v) (bindingsIn (a .slot .now) (countIn (a .slot .now))) (l .rest) (l .inv .1) at bound) in
+    let tells = fit .sound .tells at (left-below (a .plan .now) (a .block .now) (a .i) (a .v) (bindingsIn (a .slot .now) (countIn (a .slot .now))) (l .rest) (l .inv .1) at bound) in
     let most = tested-le (a .v) (c .before .before .before .before .unpack-condition .result) (c .before .before .before .before .before .before .before .before .before .before .state-of .result) (c .before .before .before .before .before .before .before .before .before .count-of .result) in
     let some : m .j < countIn (a .slot .now) = omega arith in
     let inside = fit .seated .inBlock (bindingAt (a .slot .now) (m .j)) (binding-among (a .slot .now) (countIn (a .slot .now)) (m .j) some) in
-    (omega arith, omega arith, inside)
+    (tells, c .before .before .before .before .unpack-condition .ensures, omega arith, inside)
 
 add-j : tie.Need-add-j Inv-loop μ-loop Inv-conditions μ-conditions
 add-j c = omega arith
@@ -205,8 +204,8 @@ joins-hold-spec =
     count-of-requires
     conditions-holds
     lowest-bit-requires
-    mul-unpack-condition
-    element-copy-out-unpack-condition
+    mul-word
+    element-copy-out-word
     unpack-condition-requires
     new-value-requires
     tested-requires

@@ -14,14 +14,14 @@ use Rattle.firing.proofs.Masks.{mask-turn, mask-fits}
 use Rattle.firing.proofs.other_mask.Statement.{statement}
 use Rattle.firing.proofs.other_mask.Tie as tie
 
-abbrev other : Pattern → ℕ → Bool
-other p i = isOther (conditionAt p i)
+abbrev other : Pattern → ℕ → ℕ → Bool
+other p kind i = isOther kind (conditionAt p i)
 
 abbrev Inv-loop : tie.InvT-loop
-Inv-loop p c bits₀ i₀ bits i = (i ≤ c) × (c ≤ 32) × (bits ≡ mask (other p) i)
+Inv-loop kind p c bits₀ i₀ bits i = (i ≤ c) × (c ≤ 32) × (bits ≡ mask (other p kind) i)
 
 abbrev μ-loop : tie.MeasureT-loop
-μ-loop p c bits₀ i₀ bits i = c - i
+μ-loop kind p c bits₀ i₀ bits i = c - i
 
 loop-holds : tie.Need-loop-holds Inv-loop μ-loop
 loop-holds c = (search needs, c .pre, sym (mask-none _))
@@ -49,7 +49,7 @@ unfolding conditionAt
 add-bits c =
     let a = c .before .before .before .before .before .before .before .before .args in
     let l = c .before .before .before .before .before .before .before .loop in
-    record { fits = mask-fits (other (a .t1)) (l .i) (l .bits) (c .weight-if .result) (c .before .is-other .result) (l .inv .2) (c .before .is-other .ensures) (c .weight-if .ensures) (omega arith) }
+    record { fits = mask-fits (other (a .t1) (a .kind)) (l .i) (l .bits) (c .weight-if .result) (c .before .is-other .result) (l .inv .2) (c .before .is-other .ensures) (c .weight-if .ensures) (omega arith) }
 
 add-i : tie.Need-add-i Inv-loop μ-loop
 add-i c = omega arith
@@ -62,14 +62,14 @@ unfolding conditionAt
 loop-again c =
     let a = c .before .before .before .before .before .before .before .before .args in
     let l = c .before .before .before .before .before .before .before .loop in
-    (omega arith, omega arith, mask-turn (other (a .t1)) (l .i) (l .bits) (c .weight-if .result) (c .before .is-other .result) (l .inv .2) (c .before .is-other .ensures) (c .weight-if .ensures))
+    (omega arith, omega arith, mask-turn (other (a .t1) (a .kind)) (l .i) (l .bits) (c .weight-if .result) (c .before .is-other .result) (l .inv .2) (c .before .is-other .ensures) (c .weight-if .ensures))
 
 returns : tie.Need-returns Inv-loop μ-loop
 unfolding otherMask
 returns c =
     let a = c .before .before .args in
     let e : c .before .loop .i ≡ a .t1 .c = omega arith in
-    c .before .loop .inv .2 ∙ ap (mask (other (a .t1))) e
+    c .before .loop .inv .2 ∙ ap (mask (other (a .t1) (a .kind))) e
 
 pub other-mask-spec : {M : Type 1} → statement M
 other-mask-spec =

@@ -1,7 +1,7 @@
 -- `firing::place` meets its contract, by the part of the plan that the place stands in. Assumes nothing.
 use mathlib.Core.Path.{_∙_, sym}
 use native.Mathlib.Omega.{arith}
-use Rattle.firing.proofs.Plans.{place-word, place-none, place-mask, place-joins, place-class, place-others}
+use Rattle.firing.proofs.Plans.{place-word, place-none, place-mask, place-joins, place-class, place-others, none-tells}
 use borrow.Author.Needs.{needs}
 use Rattle.firing.proofs.place.Statement.{statement}
 use Rattle.firing.proofs.place.Tie as tie
@@ -12,12 +12,12 @@ word-at-requires c κs = search needs
 returns : tie.Need-returns
 returns c =
     let a = c .before .before .before .before .args in
-    record { is = c .word-at .ensures .packed ∙ sym (place-word (a .p) (a .at) (omega arith) (omega arith)); back = λ h. c .word-at .ensures .back }
+    record { is = c .word-at .ensures .packed ∙ sym (place-word (a .p) (a .at) (omega arith) (omega arith)); back = λ h. c .word-at .ensures .back; tells = λ h. c .word-at .ensures .tells }
 
 returns-2 : tie.Need-returns-2
 returns-2 c =
     let a = c .before .before .before .args in
-    record { is = sym (place-none (a .p) (a .at) (omega arith) (omega arith)); back = λ h. absurd (omega arith) }
+    record { is = sym (place-none (a .p) (a .at) (omega arith) (omega arith)); back = λ h. absurd (omega arith); tells = λ h. none-tells }
 
 variable-mask-requires : tie.Need-variable-mask-requires
 variable-mask-requires c κs = search needs
@@ -26,7 +26,7 @@ returns-3 : tie.Need-returns-3
 returns-3 c =
     let a = c .before .before .before .args in
     let few = c .before .before .before .pre .0 .fewConditions in
-    record { is = c .variable-mask .ensures ∙ sym (place-mask (a .p) (a .at) (omega arith) (omega arith)); back = λ h. absurd (omega arith) }
+    record { is = c .variable-mask .ensures ∙ sym (place-mask (a .p) (a .at) (omega arith) (omega arith)); back = λ h. absurd (omega arith); tells = λ h. absurd (omega arith) }
 
 join-mask-requires : tie.Need-join-mask-requires
 join-mask-requires c κs = search needs
@@ -35,7 +35,7 @@ returns-4 : tie.Need-returns-4
 returns-4 c =
     let a = c .before .before .before .before .args in
     let few = c .before .before .before .before .pre .0 .fewConditions in
-    record { is = c .join-mask .ensures ∙ sym (place-joins (a .p) (a .at) (omega arith) (omega arith)); back = λ h. absurd (omega arith) }
+    record { is = c .join-mask .ensures ∙ sym (place-joins (a .p) (a .at) (omega arith) (omega arith)); back = λ h. absurd (omega arith); tells = λ h. absurd (omega arith) }
 
 class-mask-requires : tie.Need-class-mask-requires
 class-mask-requires c κs = search needs
@@ -44,7 +44,10 @@ returns-5 : tie.Need-returns-5
 returns-5 c =
     let a = c .before .before .before .before .before .args in
     let few = c .before .before .before .before .before .pre .0 .fewConditions in
-    record { is = c .class-mask .ensures ∙ sym (place-class (a .p) (a .at) (omega arith) (omega arith)); back = λ h. absurd (omega arith) }
+    record { is = c .class-mask .ensures ∙ sym (place-class (a .p) (a .at) (omega arith) (omega arith)); back = λ h. absurd (omega arith); tells = λ h. absurd (omega arith) }
+
+cast-other-mask : tie.Need-cast-other-mask
+cast-other-mask c = omega arith
 
 other-mask-requires : tie.Need-other-mask-requires
 other-mask-requires c κs = search needs
@@ -53,7 +56,7 @@ returns-6 : tie.Need-returns-6
 returns-6 c =
     let a = c .before .before .before .before .before .args in
     let few = c .before .before .before .before .before .pre .0 .fewConditions in
-    record { is = c .other-mask .ensures ∙ sym (place-others (a .p) (a .at) (omega arith)); back = λ h. absurd (omega arith) }
+    record { is = c .other-mask .ensures ∙ sym (place-others (a .p) (a .at) (omega arith)); back = λ h. absurd (omega arith); tells = λ h. absurd (omega arith) }
 
 pub place-spec : {M : Type 1} → statement M
 place-spec =
@@ -68,5 +71,6 @@ place-spec =
     returns-4
     class-mask-requires
     returns-5
+    cast-other-mask
     other-mask-requires
     returns-6)

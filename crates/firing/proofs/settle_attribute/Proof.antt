@@ -1,0 +1,129 @@
+-- `firing::settle_attribute` meets its contract. The loop's invariant: the mask is settled by the conditions of the kind
+-- whose bits are no longer left. Assumes nothing.
+use mathlib.Core.Path.{_≡_, _∙_, refl, sym, ap}
+use Prim.Native.Nat.{ℕ, _-_, _^_, _<_}
+use native.Mathlib.Nat.{lt-of-le-of-lt, sub-le}
+use native.Mathlib.Omega.{arith}
+use lib.Pow.{pow-pos}
+use Rattle.records.specs.declared.Record.{Record}
+use Rattle.records.specs.Records.{recordAt}
+use Rattle.patterns.specs.Comparison.{value, raise}
+use Rattle.firing.specs.Plan.{conditionIn, othersIn}
+use Rattle.firing.specs.Firing.{settledBy}
+use Rattle.firing.proofs.Joins.{weight-le}
+use Rattle.firing.proofs.Settling.{OfKind, bit-below, leftBy, others-bound, others-kind, left-first, left-all, left-turn, other-attribute, value-settled}
+use borrow.Author.Needs.{needs}
+use Rattle.firing.proofs.settle_attribute.Statement.{statement}
+use Rattle.firing.proofs.settle_attribute.Tie as tie
+
+abbrev Inv-loop : tie.InvT-loop
+Inv-loop plan n c can attribute block i rest₀ x left₀ rest left =
+    (rest < 2 ^ c) × OfKind plan attribute rest × (left ≡ leftBy plan block i n c attribute can rest)
+
+abbrev μ-loop : tie.MeasureT-loop
+μ-loop plan n c can attribute block i rest₀ x left₀ rest left = rest
+
+add-rest : tie.Need-add-rest Inv-loop μ-loop
+add-rest c = let few = c .before .pre .1 in omega arith
+
+mul-rest : tie.Need-mul-rest Inv-loop μ-loop
+mul-rest c = let few = c .before .pre .1 in omega arith
+
+element-copy-out-rest : tie.Need-element-copy-out-rest Inv-loop μ-loop
+element-copy-out-rest c = let few = c .before .pre .1 in let size = c .before .pre .0 .sound .size in omega arith
+
+returns : tie.Need-returns Inv-loop μ-loop
+returns c = 
+    let st = c .before .before .before in
+    let a = st .args in
+    let p = st .pre .0 in
+    left-first (a .plan .now) (a .block .now) (a .i) (a .n) (a .c) (a .attribute) (a .can) (p .classed) (omega arith) (p .inside)
+    ∙ left-all (a .plan .now) (a .block .now) (a .i) (a .n) (a .c) (a .attribute) (a .can) (othersIn (a .plan .now) (a .attribute)) (c .if1 .taken)
+
+unpack-requires : tie.Need-unpack-requires Inv-loop μ-loop
+unpack-requires c κs = c .before .before .before .pre .0 .here
+
+raised-value-requires : tie.Need-raised-value-requires Inv-loop μ-loop
+raised-value-requires c κs = search needs
+
+loop-holds : tie.Need-loop-holds Inv-loop μ-loop
+loop-holds c = 
+    let st = c .before .before .before .before .before in
+    let a = st .args in
+    let p = st .pre .0 in (
+      others-bound (a .plan .now) (a .block .now) (a .i) (a .n) (a .c) (a .attribute) (a .can) (p .classed) (omega arith),
+      others-kind (a .plan .now) (a .block .now) (a .i) (a .n) (a .c) (a .attribute) (a .can) (p .classed) (omega arith),
+      left-first (a .plan .now) (a .block .now) (a .i) (a .n) (a .c) (a .attribute) (a .can) (p .classed) (omega arith) (p .inside),
+    )
+
+lowest-bit-requires : tie.Need-lowest-bit-requires Inv-loop μ-loop
+lowest-bit-requires c κs = omega arith
+
+mul-settle-value : tie.Need-mul-settle-value Inv-loop μ-loop
+mul-settle-value c = let s = c .lowest-bit .ensures .small in omega arith
+
+element-copy-out-settle-value : tie.Need-element-copy-out-settle-value Inv-loop μ-loop
+element-copy-out-settle-value c = let s = c .lowest-bit .ensures .small in let size = c .before .before .before .before .before .before .before .before .pre .0 .sound .size in omega arith
+
+settle-value-requires : tie.Need-settle-value-requires Inv-loop μ-loop
+settle-value-requires c κs = 
+    let st = c .before .before .before .before .before .before .before .before .before in
+    let p = st .pre .0 in
+    let l = c .before .before .before .loop in
+    let low = c .before .lowest-bit in
+    let below = bit-below (l .rest) (st .args .c) (low .result) (l .inv .0) (low .ensures .here) in
+    let few = p .conditions in
+    let at : low .result < 32 = omega arith in
+    (p .sound .tells (low .result) at, other-attribute (st .args .attribute) (conditionIn (st .args .plan .now) (low .result)) (st .pre .1) (l .inv .1 .each (low .result) (low .ensures .here)))
+
+without-lowest-requires : tie.Need-without-lowest-requires Inv-loop μ-loop
+without-lowest-requires c κs = omega arith
+
+loop-less : tie.Need-loop-less Inv-loop μ-loop
+loop-less c = 
+    let low = c .before .before .before .lowest-bit in
+    let l = c .before .before .before .before .before .loop in
+    omega (arith, c .without-lowest .ensures (low .result) (low .ensures), weight-le (l .rest) (low .result) (low .ensures .here), pow-pos (low .result))
+
+loop-again : tie.Need-loop-again Inv-loop μ-loop
+loop-again c = 
+    let st = c .before .before .before .before .before .before .before .before .before .before .before in
+    let a = st .args in
+    let l = c .before .before .before .before .before .loop in
+    let low = c .before .before .before .lowest-bit in
+    let k = conditionIn (a .plan .now) (low .result) in
+    let seen = c .before .before .before .before .before .before .raised-value in
+    let read = c .before .before .before .before .before .before .before .unpack in
+    let settled = c .before .settle-value in
+    left-turn (a .plan .now) (a .block .now) (a .i) (a .n) (a .c) (a .attribute) (a .can) (l .rest) (low .result) (l .inv .0) (low .ensures .here) (l .inv .1)
+    (l .left) (settled .result) (c .without-lowest .result) (l .inv .2)
+    (settled .ensures ∙ value-settled (a .attribute) k (st .pre .1) (l .inv .1 .each (low .result) (low .ensures .here)) (l .left) (seen .result) (recordAt (a .block .now) (a .i)) (seen .ensures ∙ ap (λ (r : Record). raise (value (a .attribute) r)) (read .ensures)))
+    (c .without-lowest .ensures (low .result) (low .ensures))
+
+returns-2 : tie.Need-returns-2 Inv-loop μ-loop
+returns-2 c = 
+    let a = c .before .before .before .before .before .before .before .args in
+    let l = c .before .loop in
+    l .inv .2 ∙ left-all (a .plan .now) (a .block .now) (a .i) (a .n) (a .c) (a .attribute) (a .can) (l .rest) (c .loop-test .left)
+
+pub settle-attribute-spec : {M : Type 1} → statement M
+settle-attribute-spec =
+    tie.close
+    (tie.spec
+    Inv-loop
+    μ-loop
+    add-rest
+    mul-rest
+    element-copy-out-rest
+    returns
+    unpack-requires
+    raised-value-requires
+    loop-holds
+    lowest-bit-requires
+    mul-settle-value
+    element-copy-out-settle-value
+    settle-value-requires
+    without-lowest-requires
+    loop-less
+    loop-again
+    returns-2)

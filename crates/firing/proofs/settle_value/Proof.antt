@@ -1,0 +1,69 @@
+-- `firing::settle_value` meets its contract: the weight of the variable where the value fails, taken out. Assumes nothing.
+use mathlib.Core.Path.{_≡_, _∙_, sym, ap, ap₂}
+use mathlib.Core.Bool.{not}
+use Prim.Native.Nat.{ℕ, _*_, _^_}
+use native.Mathlib.Omega.{arith}
+use lib.Bits.{and-le-l}
+use lib.IntN.{pos}
+use Rattle.numbers.specs.Numbers.{oneIf}
+use Rattle.patterns.specs.declared.Condition.{Condition}
+use Rattle.patterns.specs.Patterns.{conditionOf}
+use Rattle.patterns.specs.Comparison.{meets, orderOf, raise, constantValue}
+use Rattle.firing.proofs.Plans.{condition-variable}
+use Rattle.firing.proofs.Settling.{weight-fits, taken-out}
+use borrow.Author.Needs.{needs}
+use Rattle.firing.proofs.settle_value.Statement.{statement}
+use Rattle.firing.proofs.settle_value.Tie as tie
+
+unpack-condition-requires : tie.Need-unpack-condition-requires
+unpack-condition-requires c κs = search needs
+
+raised-constant-requires : tie.Need-raised-constant-requires
+raised-constant-requires c κs = search needs
+
+fails-requires : tie.Need-fails-requires
+fails-requires c κs = c .before .before .pre .0
+
+cast-weight : tie.Need-cast-weight
+cast-weight c = search needs
+
+weight-requires : tie.Need-weight-requires
+weight-requires c κs =
+    let o = ap (λ (k : Condition). k .variable) (c .before .before .before .unpack-condition .ensures) in
+    omega (arith, condition-variable (c .before .before .before .before .args .word))
+
+mul-lost : tie.Need-mul-lost
+mul-lost c =
+    let a = c .before .before .before .before .before .args in
+    let k = conditionOf (a .word) in
+    let failed = not (meets (k .operator) (orderOf (pos (a .x)) (pos (c .before .before .before .raised-constant .result)))) in
+    let weight : c .weight .result ≡ 2 ^ k .variable = c .weight .ensures ∙ ap (λ (j : Condition). 2 ^ j .variable) (c .before .before .before .before .unpack-condition .ensures) in
+    record { fits = rw (c .before .before .fails .ensures, weight) (weight-fits failed (k .variable) (condition-variable (a .word))) }
+
+sub-result : tie.Need-sub-result
+sub-result c = and-le-l (c .before .before .before .before .before .args .can) (c .before .before .fails .result * c .weight .result)
+
+returns : tie.Need-returns
+returns c =
+    let a = c .before .before .before .before .before .args in
+    let k = conditionOf (a .word) in
+    let is = c .before .before .before .before .unpack-condition .ensures in
+    let y : c .before .before .before .raised-constant .result ≡ raise (constantValue (k .attribute) (k .constant)) =
+    c .before .before .before .raised-constant .ensures ∙ ap₂ (λ (attribute : ℕ) (j : Condition). raise (constantValue attribute (j .constant))) (sym (c .before .before .before .before .before .pre .1)) is in
+    taken-out (a .can) k (a .x) (c .before .before .fails .result * c .weight .result)
+    (ap₂ (λ (m n : ℕ). m * n)
+    (c .before .before .fails .ensures ∙ ap (λ (z : ℕ). oneIf (not (meets (k .operator) (orderOf (pos (a .x)) (pos z))))) y)
+    (c .weight .ensures ∙ ap (λ (j : Condition). 2 ^ j .variable) is))
+
+pub settle-value-spec : {M : Type 1} → statement M
+settle-value-spec =
+    tie.close
+    (tie.spec
+    unpack-condition-requires
+    raised-constant-requires
+    fails-requires
+    cast-weight
+    weight-requires
+    mul-lost
+    sub-result
+    returns)
