@@ -134,7 +134,7 @@ fn no_cans() -> [u16; 4096]
 }
 
 // For each record the variables that can fire there by its own conditions, settled once a call and not once a reading.
-fn all_can(plan: &[u64; 97], n: usize, c: usize, block: &[u8]) -> [u16; 4096]
+fn all_can(plan: &[u64; 102], n: usize, c: usize, block: &[u8]) -> [u16; 4096]
     requires { ⌜ Usable (now plan) (now block) n c ⌝ }
     ensures { λ r. ⌜ Cans (now (plan .entry)) (now (block .entry)) n c r ⌝ }
 {
@@ -149,7 +149,7 @@ fn all_can(plan: &[u64; 97], n: usize, c: usize, block: &[u8]) -> [u16; 4096]
 }
 
 // The variables that leave a state.
-fn leaving(plan: &[u64; 97], n: usize, state: u64) -> u64
+fn leaving(plan: &[u64; 102], n: usize, state: u64) -> u64
     requires { ⌜ (length (now plan) ≡ planRoom) × (n ≤ mostVariables) ⌝ }
     ensures { λ r. ⌜ r ≡ leavingBy (now (plan .entry)) n state ⌝ }
 {
@@ -163,7 +163,7 @@ fn leaving(plan: &[u64; 97], n: usize, state: u64) -> u64
 }
 
 // Of the variables asked, which can fire at record i and leave the reading's state, those that fire.
-fn firing_of(block: &[u8], plan: &[u64; 97], i: usize, asked: u64, slot: &[u8]) -> u64
+fn firing_of(block: &[u8], plan: &[u64; 102], i: usize, asked: u64, slot: &[u8]) -> u64
     requires { ⌜ (asked < 2 ^ mostVariables) × Fit (now plan) (now block) i (now slot) ⌝ }
     ensures { λ r. ⌜ r ≡ agreeingBy (now (plan .entry)) (now (block .entry)) i asked (heldIn (now (slot .entry))) ⌝ }
 {
@@ -182,7 +182,7 @@ fn firing_of(block: &[u8], plan: &[u64; 97], i: usize, asked: u64, slot: &[u8]) 
 // Skips to the next record from j on that fires; to the record at which the reading closes, where none does.
 fn next_fire(
     block: &[u8],
-    plan: &[u64; 97],
+    plan: &[u64; 102],
     cans: &[u16; 4096],
     s: Start,
     j: usize,
@@ -217,7 +217,7 @@ fn next_fire(
 // From a reading that is held before record j: on to the next record that fires.
 fn skip(
     block: &[u8],
-    plan: &[u64; 97],
+    plan: &[u64; 102],
     cans: &[u16; 4096],
     slot: slots::Slot,
     j: usize,
@@ -251,7 +251,7 @@ fn skip(
 // At record j, each of the firing variables in turn.
 fn branch(
     block: &[u8],
-    plan: &[u64; 97],
+    plan: &[u64; 102],
     cans: &[u16; 4096],
     slot: slots::Slot,
     j: usize,
@@ -343,7 +343,7 @@ fn start_at(block: &[u8], n: usize, c: usize, duration: u64, i: usize, opened: u
 // Readings of a later start close no earlier, so each search for the record that closes goes on where the last one ended.
 fn each_start(
     block: &[u8],
-    plan: &[u64; 97],
+    plan: &[u64; 102],
     n: usize,
     c: usize,
     duration: u64,
