@@ -550,5 +550,8 @@ pub fn agrees(plan: &[u64; 102], block: &[u8], i: usize, v: usize, slot: &[u8]) 
     if !is_later(plan, block, i, v, slot) {
         return false;
     }
+    if plan[FIRST_JOINS + v] == 0 {
+        return true;
+    }
     joins_hold(plan, block, i, v, slot)
 }

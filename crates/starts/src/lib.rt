@@ -171,8 +171,11 @@ fn firing_of(block: &[u8], plan: &[u64; 102], i: usize, asked: u64, slot: &[u8])
     let mut rest = asked;
     while rest != 0 {
         let v = numbers::lowest_bit(rest);
-        firing = firing + numbers::weight_if(firing::agrees(plan, block, i, v, slot), v);
         rest = numbers::without_bit(rest, v);
+        if !firing::is_later(plan, block, i, v, slot) {
+            continue;
+        }
+        firing = firing + numbers::weight_if(firing::joins_hold(plan, block, i, v, slot), v);
     }
     firing
 }

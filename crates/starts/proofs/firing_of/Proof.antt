@@ -1,12 +1,15 @@
 -- `starts::firing_of` meets its contract. The loop's invariant: what is found so far and what the variables left will give
 -- make the whole. Assumes nothing.
+use native.Mathlib.Nat.{zero-mul}
 use native.Mathlib.Omega.{arith}
-use mathlib.Core.Path.{_≡_, ap, _∙_}
-use mathlib.Core.Bool.{Bool}
+use mathlib.Core.Path.{_≡_, sym, ap, _∙_}
+use mathlib.Core.Bool.{Bool, _&&_}
 use Prim.Native.Nat.{ℕ, _+_, _*_, _^_, _<_}
+use borrow.Author.Tests.{not-true, not-false}
 use Rattle.numbers.specs.Numbers.{oneIf}
 use Rattle.patterns.specs.Patterns.{mostVariables}
 use Rattle.slots.specs.Slots.{heldIn}
+use Rattle.firing.specs.Firing.{joinsBy}
 use Rattle.starts.specs.Skips.{agreeingBy}
 use Rattle.starts.proofs.Turns.{low-bits, rest-less}
 use Rattle.starts.proofs.Masks.{agreeing-none, agreeing-bound, agreeing-lowest}
@@ -26,48 +29,78 @@ loop-holds c = (c .before .before .pre .0, omega arith)
 lowest-bit-requires : tie.Need-lowest-bit-requires Inv-loop μ-loop
 lowest-bit-requires c κs = search needs
 
-agrees-requires : tie.Need-agrees-requires Inv-loop μ-loop
-agrees-requires c κs =
-    let h = c .before .before .loop in
-    let low = c .lowest-bit in
-    (c .before .before .before .before .before .pre .1, low-bits (h .rest) mostVariables (low .result) (h .inv .0) (low .ensures .here))
-
-weight-if-requires : tie.Need-weight-if-requires Inv-loop μ-loop
-weight-if-requires c κs = c .before .lowest-bit .ensures .small
-
-add-firing : tie.Need-add-firing Inv-loop μ-loop
-add-firing c =
-    let a = c .before .before .before .before .before .before .before .args in
-    let h = c .before .before .before .before .loop in
-    let low = c .before .before .lowest-bit in
-    let v = low .result in
-    let parts = agreeing-lowest (a .plan .now) (a .block .now) (a .i) (heldIn (a .slot .now)) (h .rest) v (h .inv .0) (low .ensures) in
-    let bound = agreeing-bound (a .plan .now) (a .block .now) (a .i) (heldIn (a .slot .now)) (a .asked) in
-    let whole = h .inv .1 in
-    let weight = c .weight-if .ensures ∙ ap (λ (t : Bool). oneIf t * 2 ^ v) (c .before .agrees .ensures) in
-    omega arith
-
 without-bit-requires : tie.Need-without-bit-requires Inv-loop μ-loop
-without-bit-requires c κs = c .before .before .lowest-bit .ensures .small
+without-bit-requires c κs = c .lowest-bit .ensures .small
+
+is-later-requires : tie.Need-is-later-requires Inv-loop μ-loop
+is-later-requires c κs = 
+    let h = c .before .before .before .loop in
+    let low = c .before .lowest-bit in
+    (c .before .before .before .before .before .before .pre .1, low-bits (h .rest) mostVariables (low .result) (h .inv .0) (low .ensures .here))
 
 loop-less : tie.Need-loop-less Inv-loop μ-loop
-loop-less c =
+loop-less c = 
     let h = c .before .before .before .before .before .loop in
     let low = c .before .before .before .lowest-bit in
     let less = rest-less (h .rest) (low .result) 64 (omega (arith, c .before .before .before .before .loop-test .taken)) (low .ensures) in
-    let is = c .without-bit .ensures in
+    let is = c .before .before .without-bit .ensures in
     omega arith
 
 loop-again : tie.Need-loop-again Inv-loop μ-loop
-loop-again c =
+loop-again c = 
     let a = c .before .before .before .before .before .before .before .before .args in
     let h = c .before .before .before .before .before .loop in
     let low = c .before .before .before .lowest-bit in
     let v = low .result in
     let parts = agreeing-lowest (a .plan .now) (a .block .now) (a .i) (heldIn (a .slot .now)) (h .rest) v (h .inv .0) (low .ensures) in
     let whole = h .inv .1 in
-    let weight = c .before .weight-if .ensures ∙ ap (λ (t : Bool). oneIf t * 2 ^ v) (c .before .before .agrees .ensures) in
-    let is = c .without-bit .ensures in
+    let weight = ap (λ (t : Bool). oneIf (t && joinsBy (a .plan .now) (a .block .now) (a .i) v (heldIn (a .slot .now) .bindings)) * 2 ^ v) (sym (c .before .is-later .ensures) ∙ not-true (c .before .is-later .result) (c .if1 .taken)) ∙ zero-mul (2 ^ v) in
+    let is = c .before .before .without-bit .ensures in
+    let small = h .inv .0 in
+    let left = ap (λ (x : ℕ). agreeingBy (a .plan .now) (a .block .now) (a .i) x (heldIn (a .slot .now))) is in
+    (omega arith, omega arith)
+
+joins-hold-requires : tie.Need-joins-hold-requires Inv-loop μ-loop
+joins-hold-requires c κs = 
+    let h = c .before .before .before .before .before .loop in
+    let low = c .before .before .before .lowest-bit in
+    (c .before .before .before .before .before .before .before .before .pre .1, low-bits (h .rest) mostVariables (low .result) (h .inv .0) (low .ensures .here))
+
+weight-if-requires : tie.Need-weight-if-requires Inv-loop μ-loop
+weight-if-requires c κs = c .before .before .before .before .lowest-bit .ensures .small
+
+add-firing : tie.Need-add-firing Inv-loop μ-loop
+unfolding heldIn
+add-firing c = 
+    let a = c .before .before .before .before .before .before .before .before .before .before .args in
+    let h = c .before .before .before .before .before .before .before .loop in
+    let low = c .before .before .before .before .before .lowest-bit in
+    let v = low .result in
+    let parts = agreeing-lowest (a .plan .now) (a .block .now) (a .i) (heldIn (a .slot .now)) (h .rest) v (h .inv .0) (low .ensures) in
+    let bound = agreeing-bound (a .plan .now) (a .block .now) (a .i) (heldIn (a .slot .now)) (a .asked) in
+    let whole = h .inv .1 in
+    let weight = c .weight-if .ensures ∙ ap (λ (t : Bool). oneIf t * 2 ^ v) (c .before .joins-hold .ensures) ∙ sym (ap (λ (t : Bool). oneIf (t && joinsBy (a .plan .now) (a .block .now) (a .i) v (heldIn (a .slot .now) .bindings)) * 2 ^ v) (sym (c .before .before .before .is-later .ensures) ∙ not-false (c .before .before .before .is-later .result) (c .before .before .if1 .left))) in
+    omega arith
+
+loop-less-2 : tie.Need-loop-less-2 Inv-loop μ-loop
+loop-less-2 c = 
+    let h = c .before .before .before .before .before .before .before .loop in
+    let low = c .before .before .before .before .before .lowest-bit in
+    let less = rest-less (h .rest) (low .result) 64 (omega (arith, c .before .before .before .before .before .before .loop-test .taken)) (low .ensures) in
+    let is = c .before .before .before .before .without-bit .ensures in
+    omega arith
+
+loop-again-2 : tie.Need-loop-again-2 Inv-loop μ-loop
+unfolding heldIn
+loop-again-2 c = 
+    let a = c .before .before .before .before .before .before .before .before .before .before .args in
+    let h = c .before .before .before .before .before .before .before .loop in
+    let low = c .before .before .before .before .before .lowest-bit in
+    let v = low .result in
+    let parts = agreeing-lowest (a .plan .now) (a .block .now) (a .i) (heldIn (a .slot .now)) (h .rest) v (h .inv .0) (low .ensures) in
+    let whole = h .inv .1 in
+    let weight = c .weight-if .ensures ∙ ap (λ (t : Bool). oneIf t * 2 ^ v) (c .before .joins-hold .ensures) ∙ sym (ap (λ (t : Bool). oneIf (t && joinsBy (a .plan .now) (a .block .now) (a .i) v (heldIn (a .slot .now) .bindings)) * 2 ^ v) (sym (c .before .before .before .is-later .ensures) ∙ not-false (c .before .before .before .is-later .result) (c .before .before .if1 .left))) in
+    let is = c .before .before .before .before .without-bit .ensures in
     let small = h .inv .0 in
     let left = ap (λ (x : ℕ). agreeingBy (a .plan .now) (a .block .now) (a .i) x (heldIn (a .slot .now))) is in
     (omega arith, omega arith)
@@ -88,10 +121,13 @@ firing-of-spec =
     μ-loop
     loop-holds
     lowest-bit-requires
-    agrees-requires
-    weight-if-requires
-    add-firing
     without-bit-requires
+    is-later-requires
     loop-less
     loop-again
+    joins-hold-requires
+    weight-if-requires
+    add-firing
+    loop-less-2
+    loop-again-2
     returns)
