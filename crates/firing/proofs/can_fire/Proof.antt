@@ -1,16 +1,11 @@
 -- `firing::can_fire` meets its contract: the class, and then kind by kind. Assumes nothing.
-use mathlib.Core.Path.{_≡_, _∙_, refl, sym, ap, subst}
-use Prim.Native.Nat.{ℕ, _/_, _^_, _<_, _≤_}
+use mathlib.Core.Path.{_≡_, _∙_, sym, ap}
+use Prim.Native.Nat.{ℕ, _/_}
 use native.Mathlib.Omega.{arith}
-use mathlib.Core.List.{List}
-use Rattle.numbers.specs.Numbers.{every}
-use Rattle.numbers.specs.Bits.{bit}
-use Rattle.numbers.proofs.Bits.{mask-bound}
-use Rattle.records.specs.Records.{recordBytes, recordAt}
+use Rattle.records.specs.Records.{recordAt}
 use lib.Pow.{pow-pos}
-use Rattle.patterns.specs.Patterns.{mostVariables, mostConditions}
-use Rattle.firing.specs.Plan.{classIn, typesTogether, bothSides, Sound, Classed}
-use Rattle.firing.specs.Firing.{ownHolds, canBy, settledBy, Settling}
+use Rattle.firing.specs.Plan.{classIn, typesTogether, bothSides}
+use Rattle.firing.specs.Firing.{canBy, settledBy}
 use Rattle.firing.proofs.Classes.{class-inside, settled-inside, all-settled, none-settled}
 use Rattle.firing.proofs.can_fire.Statement.{statement}
 use Rattle.firing.proofs.can_fire.Tie as tie
@@ -37,7 +32,7 @@ element-copy-out-by-class : tie.Need-element-copy-out-by-class
 element-copy-out-by-class c = let size = c .before .before .pre .0 .size in omega arith
 
 settle-attribute-requires : tie.Need-settle-attribute-requires
-settle-attribute-requires c κs = 
+settle-attribute-requires c κs =
     let st = c .before .before .before in
     let a = st .args in
     let p = st .pre in
@@ -46,7 +41,7 @@ settle-attribute-requires c κs =
 
 returns : tie.Need-returns
 unfolding recordAt
-returns c = 
+returns c =
     let st = c .before .before .before .before .before in
     let a = st .args in
     let t = c .before .before .before .byte .result in
@@ -56,28 +51,28 @@ returns c =
     (sym none ∙ all, pow-pos (a .n))
 
 settle-attribute-requires-2 : tie.Need-settle-attribute-requires-2
-settle-attribute-requires-2 c κs = 
+settle-attribute-requires-2 c κs =
     let st = c .before .before .before .before .before in
     let a = st .args in
     let p = st .pre in
     (record { sound = p .0; classed = p .1; variables = p .2; conditions = p .3; inside = rw (c .before .settle-attribute .ensures) (settled-inside (a .plan .now) (a .block .now) (a .i) (a .n) (a .c) 1 _); here = p .4 }, omega arith)
 
 settle-attribute-requires-3 : tie.Need-settle-attribute-requires-3
-settle-attribute-requires-3 c κs = 
+settle-attribute-requires-3 c κs =
     let st = c .before .before .before .before .before .before in
     let a = st .args in
     let p = st .pre in
     (record { sound = p .0; classed = p .1; variables = p .2; conditions = p .3; inside = rw (c .settle-attribute2 .ensures) (settled-inside (a .plan .now) (a .block .now) (a .i) (a .n) (a .c) 0 _); here = p .4 }, omega arith)
 
 settle-attribute-requires-4 : tie.Need-settle-attribute-requires-4
-settle-attribute-requires-4 c κs = 
+settle-attribute-requires-4 c κs =
     let st = c .before .before .before .before .before .before .before in
     let a = st .args in
     let p = st .pre in
     (record { sound = p .0; classed = p .1; variables = p .2; conditions = p .3; inside = rw (c .settle-attribute3 .ensures) (settled-inside (a .plan .now) (a .block .now) (a .i) (a .n) (a .c) 3 _); here = p .4 }, omega arith)
 
 settle-both-requires : tie.Need-settle-both-requires
-settle-both-requires c κs = 
+settle-both-requires c κs =
     let st = c .before .before .before .before .before .before .before .before in
     let a = st .args in
     let p = st .pre in
@@ -85,7 +80,7 @@ settle-both-requires c κs =
 
 returns-2 : tie.Need-returns-2
 unfolding recordAt
-returns-2 c = 
+returns-2 c =
     let st = c .before .before .before .before .before .before .before .before .before in
     let a = st .args in
     let t = c .before .before .before .before .before .before .before .byte .result in

@@ -1,10 +1,8 @@
 -- `firing::fails` meets its contract: the word tells of each order. Assumes nothing.
 use mathlib.Core.Path.{_∙_, ap}
-use mathlib.Core.Bool.{not}
 use Prim.Native.Nat.{ℕ, _+_, _/_, _%_, _^_}
 use native.Mathlib.Omega.{arith}
 use lib.IntN.{pos}
-use Rattle.numbers.specs.Numbers.{oneIf}
 use Rattle.patterns.specs.Comparison.{orderOf}
 use Rattle.patterns.proofs.Comparison.{order-bound}
 use Rattle.firing.specs.Plan.{firstOrder}

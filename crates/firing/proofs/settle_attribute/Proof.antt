@@ -1,15 +1,13 @@
 -- `firing::settle_attribute` meets its contract. The loop's invariant: the mask is settled by the conditions of the kind
 -- whose bits are no longer left. Assumes nothing.
-use mathlib.Core.Path.{_≡_, _∙_, refl, sym, ap}
-use Prim.Native.Nat.{ℕ, _-_, _^_, _<_}
-use native.Mathlib.Nat.{lt-of-le-of-lt, sub-le}
+use mathlib.Core.Path.{_≡_, _∙_, ap}
+use Prim.Native.Nat.{_^_, _<_}
 use native.Mathlib.Omega.{arith}
 use lib.Pow.{pow-pos}
 use Rattle.records.specs.declared.Record.{Record}
 use Rattle.records.specs.Records.{recordAt}
 use Rattle.patterns.specs.Comparison.{value, raise}
 use Rattle.firing.specs.Plan.{conditionIn, othersIn}
-use Rattle.firing.specs.Firing.{settledBy}
 use Rattle.firing.proofs.Joins.{weight-le}
 use Rattle.firing.proofs.Settling.{OfKind, bit-below, leftBy, others-bound, others-kind, left-first, left-all, left-turn, other-attribute, value-settled}
 use borrow.Author.Needs.{needs}
@@ -33,7 +31,7 @@ element-copy-out-rest : tie.Need-element-copy-out-rest Inv-loop μ-loop
 element-copy-out-rest c = let few = c .before .pre .1 in let size = c .before .pre .0 .sound .size in omega arith
 
 returns : tie.Need-returns Inv-loop μ-loop
-returns c = 
+returns c =
     let st = c .before .before .before in
     let a = st .args in
     let p = st .pre .0 in
@@ -47,7 +45,7 @@ raised-value-requires : tie.Need-raised-value-requires Inv-loop μ-loop
 raised-value-requires c κs = search needs
 
 loop-holds : tie.Need-loop-holds Inv-loop μ-loop
-loop-holds c = 
+loop-holds c =
     let st = c .before .before .before .before .before in
     let a = st .args in
     let p = st .pre .0 in (
@@ -66,7 +64,7 @@ element-copy-out-settle-value : tie.Need-element-copy-out-settle-value Inv-loop 
 element-copy-out-settle-value c = let s = c .lowest-bit .ensures .small in let size = c .before .before .before .before .before .before .before .before .pre .0 .sound .size in omega arith
 
 settle-value-requires : tie.Need-settle-value-requires Inv-loop μ-loop
-settle-value-requires c κs = 
+settle-value-requires c κs =
     let st = c .before .before .before .before .before .before .before .before .before in
     let p = st .pre .0 in
     let l = c .before .before .before .loop in
@@ -80,13 +78,13 @@ without-lowest-requires : tie.Need-without-lowest-requires Inv-loop μ-loop
 without-lowest-requires c κs = omega arith
 
 loop-less : tie.Need-loop-less Inv-loop μ-loop
-loop-less c = 
+loop-less c =
     let low = c .before .before .before .lowest-bit in
     let l = c .before .before .before .before .before .loop in
     omega (arith, c .without-lowest .ensures (low .result) (low .ensures), weight-le (l .rest) (low .result) (low .ensures .here), pow-pos (low .result))
 
 loop-again : tie.Need-loop-again Inv-loop μ-loop
-loop-again c = 
+loop-again c =
     let st = c .before .before .before .before .before .before .before .before .before .before .before in
     let a = st .args in
     let l = c .before .before .before .before .before .loop in
@@ -101,7 +99,7 @@ loop-again c =
     (c .without-lowest .ensures (low .result) (low .ensures))
 
 returns-2 : tie.Need-returns-2 Inv-loop μ-loop
-returns-2 c = 
+returns-2 c =
     let a = c .before .before .before .before .before .before .before .args in
     let l = c .before .loop in
     l .inv .2 ∙ left-all (a .plan .now) (a .block .now) (a .i) (a .n) (a .c) (a .attribute) (a .can) (l .rest) (c .loop-test .left)

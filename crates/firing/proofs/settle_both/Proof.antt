@@ -1,11 +1,9 @@
 -- `firing::settle_both` meets its contract. The loop's invariant: the mask is settled by the conditions of the kind
 -- whose bits are no longer left. Assumes nothing.
-use mathlib.Core.Path.{_≡_, _∙_, refl, sym, ap}
-use Prim.Native.Nat.{ℕ, _-_, _^_, _<_}
-use native.Mathlib.Nat.{lt-of-le-of-lt, sub-le}
+use mathlib.Core.Path.{_≡_, _∙_, ap}
+use Prim.Native.Nat.{_^_, _<_}
 use native.Mathlib.Omega.{arith}
 use lib.Pow.{pow-pos}
-use Rattle.records.specs.Records.{recordAt}
 use Rattle.firing.specs.Plan.{conditionIn, bothSides}
 use Rattle.firing.specs.Firing.{settled}
 use Rattle.firing.proofs.Joins.{weight-le}
@@ -33,7 +31,7 @@ element-copy-out-rest : tie.Need-element-copy-out-rest Inv-loop μ-loop
 element-copy-out-rest c = let size = c .before .pre .sound .size in omega arith
 
 loop-holds : tie.Need-loop-holds Inv-loop μ-loop
-loop-holds c = 
+loop-holds c =
     let st = c .before .before in
     let a = st .args in
     let p = st .pre in (
@@ -55,7 +53,7 @@ unpack-requires : tie.Need-unpack-requires Inv-loop μ-loop
 unpack-requires c κs = c .before .before .before .before .before .before .pre .here
 
 settle-requires : tie.Need-settle-requires Inv-loop μ-loop
-settle-requires c κs = 
+settle-requires c κs =
     let st = c .before .before .before .before .before .before .before in
     let p = st .pre in
     let l = c .before .before .before .before .loop in
@@ -68,13 +66,13 @@ without-lowest-requires : tie.Need-without-lowest-requires Inv-loop μ-loop
 without-lowest-requires c κs = omega arith
 
 loop-less : tie.Need-loop-less Inv-loop μ-loop
-loop-less c = 
+loop-less c =
     let low = c .before .before .before .before .lowest-bit in
     let l = c .before .before .before .before .before .before .loop in
     omega (arith, c .without-lowest .ensures (low .result) (low .ensures), weight-le (l .rest) (low .result) (low .ensures .here), pow-pos (low .result))
 
 loop-again : tie.Need-loop-again Inv-loop μ-loop
-loop-again c = 
+loop-again c =
     let a = c .before .before .before .before .before .before .before .before .before .args in
     let l = c .before .before .before .before .before .before .loop in
     let low = c .before .before .before .before .lowest-bit in
@@ -86,7 +84,7 @@ loop-again c =
     (c .without-lowest .ensures (low .result) (low .ensures))
 
 returns : tie.Need-returns Inv-loop μ-loop
-returns c = 
+returns c =
     let a = c .before .before .before .before .args in
     let l = c .before .loop in
     l .inv .2 ∙ left-all (a .plan .now) (a .block .now) (a .i) (a .n) (a .c) bothSides (a .can) (l .rest) (c .loop-test .left)

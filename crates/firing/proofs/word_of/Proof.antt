@@ -1,10 +1,10 @@
 -- `firing::word_of` meets its contract: each field has its bits. Assumes nothing.
 use mathlib.Core.Path.{_≡_, _∙_, sym, ap, subst}
-use Prim.Native.Nat.{ℕ, _+_, _*_}
+use Prim.Native.Nat.{_+_, _*_}
 use native.Mathlib.Omega.{arith}
 use Rattle.patterns.specs.declared.Condition.{Condition}
 use Rattle.patterns.specs.Patterns.{conditionOf}
-use Rattle.firing.specs.Plan.{wordOf, failingOf, Tells}
+use Rattle.firing.specs.Plan.{wordOf, Tells}
 use Rattle.firing.proofs.Plans.{Packs, failing-bound, word-back, word-tells}
 use borrow.Author.Needs.{needs}
 use Rattle.firing.proofs.word_of.Statement.{statement}
