@@ -1,6 +1,6 @@
 /*
- * bench [--stack]: times the library's two passes against the yardstick's on five workloads, and measures the stack of a
- * call; with --stack only that. Both must give the same answer and the same bytes on each. Times are the least of several
+ * bench [--stack]: times the library's two passes against the yardstick's on five workloads, by what they ask of an event
+ * alone, and measures the stack of a call; with --stack only that. Both must give the same answer and the same bytes on each. Times are the least of several
  * rounds, the two taken in turn; the stack is painted before a call, and what the call overwrote is counted.
  */
 #define _DEFAULT_SOURCE
@@ -86,19 +86,33 @@ static void time_both(pass library, pass plain, const struct workload *w, double
 }
 
 /* One line of the table; false where the two do not agree. */
-static bool compare_times(const char *name, pass library, pass plain, const struct workload *w) {
+static bool compare_times(const char *name, const char *asked, pass library, pass plain, const struct workload *w) {
   static uint8_t result[SPALDEP_RESULT_BYTES_MAX], other[SPALDEP_RESULT_BYTES_MAX];
   double of_library, of_plain;
   uint64_t answer = library(w, result);
   if (answer != plain(w, other) || memcmp(result, other, sizeof result) != 0 || spaldep_code(answer) != 0) {
-    printf("%-15s %-24s FAILED: the library and the yardstick differ, or refuse with %u at %u\n", name, w->name,
-           spaldep_code(answer), spaldep_place(answer));
+    printf("%-15s %-24s %-14s FAILED: the library and the yardstick differ, or refuse with %u at %u\n", name, w->name,
+           asked, spaldep_code(answer), spaldep_place(answer));
     return false;
   }
   time_both(library, plain, w, &of_library, &of_plain);
-  printf("%-15s %-24s %8u %6u %10.1f %10.1f %7.2f\n", name, w->name, spaldep_readings(answer), spaldep_peak(answer),
-         1e6 * of_library, 1e6 * of_plain, of_library / of_plain);
+  printf("%-15s %-24s %-14s %8u %6u %10.1f %10.1f %7.2f\n", name, w->name, asked, spaldep_readings(answer),
+         spaldep_peak(answer), 1e6 * of_library, 1e6 * of_plain, of_library / of_plain);
   return true;
+}
+
+/* The lines of one pass. */
+static bool compare_all(const char *name, pass library, pass plain) {
+  static const char *const names[WAYS_TO_ASK] = {"class", "type", "amount", "type and slot", "itself"};
+  static struct workload w;
+  bool all = true;
+  for (enum asked asked = BY_CLASS; asked < WAYS_TO_ASK; asked++)
+    for (unsigned i = 0; i < WORKLOADS; i++) {
+      if (i == JOINS_WORKLOAD && (asked == BY_AMOUNT || asked == BY_ITSELF)) continue;
+      make_workload(i, asked, &w);
+      all = compare_times(name, names[asked], library, plain, &w) && all;
+    }
+  return all;
 }
 
 /* ---- stack ---- */
@@ -150,31 +164,23 @@ static bool print_stack(const struct workload *w) {
 static bool print_stacks(void) {
   static struct workload w;
   bool all = true;
-  make_workload(0, &w);
+  make_workload(0, BY_CLASS, &w);
   painted(library_forward, &w); /* the first call of a function of the C library takes stack to find it */
   printf("%-24s %10s %10s %10s %10s %10s %10s\n", "stack of a call, bytes", "forward", "starts", "listing", "checks",
          "C forward", "C starts");
   for (unsigned i = 0; i <= WORKLOADS; i++) {
-    make_workload(i, &w);
+    make_workload(i, BY_CLASS, &w);
     all = print_stack(&w) && all;
   }
   return all;
 }
 
 int main(int count, char **words) {
-  static struct workload w;
-  bool all = true;
   if (count == 2 && strcmp(words[1], "--stack") == 0) return print_stacks() ? 0 : 1;
-  printf("%-15s %-24s %8s %6s %10s %10s %7s\n", "pass", "workload", "readings", "peak", "library us", "plain C us",
-         "ratio");
-  for (unsigned i = 0; i < WORKLOADS; i++) {
-    make_workload(i, &w);
-    all = compare_times("forward", library_forward, plain_forward, &w) && all;
-  }
-  for (unsigned i = 0; i < WORKLOADS; i++) {
-    make_workload(i, &w);
-    all = compare_times("start-by-start", library_starts, plain_starts, &w) && all;
-  }
+  printf("%-15s %-24s %-14s %8s %6s %10s %10s %7s\n", "pass", "workload", "asked by", "readings", "peak", "library us",
+         "plain C us", "ratio");
+  bool all = compare_all("forward", library_forward, plain_forward);
+  all = compare_all("start-by-start", library_starts, plain_starts) && all;
   printf("\n");
   all = print_stacks() && all;
   return all ? 0 : 1;

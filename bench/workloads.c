@@ -3,9 +3,12 @@
 
 #include <string.h>
 
-enum { RECORDS = 4096, CORE = 0, CLASS = 2, SLOT = 3, AMOUNT = 4, EQUAL = 0, AT_MOST = 2, ABOVE = 3 };
+enum { RECORDS = 4096, CORE = 0, TYPE = 1, CLASS = 2, SLOT = 3, AMOUNT = 4, EQUAL = 0, AT_MOST = 2, ABOVE = 3 };
+enum { BOUND_ON_SLOT = 90, NO_CORE_OR_TYPE = 200, NO_CLASS = 1000 };
 
 static const uint8_t class_types[6] = {3, 17, 33, 65, 97, 129};
+
+static enum asked way;
 
 static uint32_t chance_state;
 
@@ -47,20 +50,40 @@ static void with_variable(struct workload *w, unsigned variable, unsigned attrib
   at[2] = (uint8_t)((second_attribute & 3) << 6);
 }
 
+/* What a variable asks of an event alone, so that events of a class meet it. */
+static void own_conditions(struct workload *w, unsigned variable, unsigned class) {
+  static const unsigned first[3] = {CORE, TYPE, CLASS}, second[3] = {SLOT, SLOT, AMOUNT};
+  if (way == BY_CLASS) with_constant(w, variable, CLASS, EQUAL, (uint8_t)class);
+  if (way == BY_TYPE || way == BY_TYPE_AND_SLOT) with_constant(w, variable, TYPE, EQUAL, class_types[class]);
+  if (way == BY_TYPE_AND_SLOT) with_constant(w, variable, SLOT, AT_MOST, BOUND_ON_SLOT);
+  if (way == BY_AMOUNT) with_constant(w, variable, AMOUNT, EQUAL, (uint8_t)class);
+  if (way == BY_ITSELF) with_variable(w, variable, first[class], EQUAL, variable, second[class]);
+}
+
 /* Document 01's bench pattern, with a duration of its own. */
 static void bench_pattern(struct workload *w, uint64_t duration) {
   begin_pattern(w, 3, "\x10\x18\x20", duration);
-  for (unsigned v = 0; v < 3; v++) with_constant(w, v, CLASS, EQUAL, (uint8_t)v);
+  for (unsigned v = 0; v < 3; v++) own_conditions(w, v, v);
   with_variable(w, 0, CORE, EQUAL, 1, CORE);
   with_variable(w, 0, CORE, EQUAL, 2, CORE);
 }
 
 /* ---- blocks: a record every 10 cycles ---- */
 
+/* An event's slot and amount, by which BY_AMOUNT and BY_ITSELF know its class: of class 0 the slot is the core, of class 1
+   the type, of class 2 the amount is the class. */
+static void tell_class(unsigned core, unsigned class, uint32_t *slot, uint32_t *amount) {
+  if (way == BY_AMOUNT) *amount = class;
+  if (way != BY_ITSELF) return;
+  *slot = class == 0 ? core : class == 1 ? class_types[class] : NO_CORE_OR_TYPE;
+  *amount = class == 2 ? class : NO_CLASS;
+}
+
 static void put_record(struct workload *w, size_t record, unsigned core, unsigned class, uint32_t slot,
                        uint32_t amount) {
   uint8_t *at = w->block + 16 * record;
   uint64_t time = 10 + 10 * (uint64_t)record;
+  tell_class(core, class, &slot, &amount);
   memset(at, 0, 16);
   at[0] = (uint8_t)core;
   at[1] = class_types[class];
@@ -72,9 +95,11 @@ static void put_record(struct workload *w, size_t record, unsigned core, unsigne
 }
 
 static void put_gap(struct workload *w, size_t record) {
-  put_record(w, record, 0, 0, 1, 0);
-  w->block[16 * record] = 0x40;
-  w->block[16 * record + 1] = 0;
+  uint8_t *at = w->block + 16 * record;
+  at[0] = 0x40;
+  at[1] = 0;
+  memset(at + 7, 0, 8);
+  at[10] = 1;
 }
 
 /* ---- the workloads ---- */
@@ -99,7 +124,7 @@ static void sparse_workload(struct workload *w) {
 static void branching_workload(struct workload *w) {
   w->name = "branching set";
   begin_pattern(w, 5, "\x10\x10\x10\x10\x20", 100);
-  for (unsigned v = 0; v < 5; v++) with_constant(w, v, CLASS, EQUAL, v == 4);
+  for (unsigned v = 0; v < 5; v++) own_conditions(w, v, v == 4);
   for (size_t i = 0; i < RECORDS; i++)
     put_record(w, i, 1, chance(100) < 18 ? 0 : chance(100) < 10 ? 1 : 3, chance(100), chance(100));
 }
@@ -107,7 +132,7 @@ static void branching_workload(struct workload *w) {
 static void joins_workload(struct workload *w) {
   w->name = "long windows with joins";
   begin_pattern(w, 4, "\x10\x28\x28\x30", 4000);
-  for (unsigned v = 0; v < 4; v++) with_constant(w, v, CLASS, EQUAL, (uint8_t)v);
+  for (unsigned v = 0; v < 4; v++) own_conditions(w, v, v);
   with_variable(w, 0, SLOT, EQUAL, 1, SLOT);
   with_variable(w, 1, AMOUNT, AT_MOST, 2, AMOUNT);
   with_variable(w, 2, SLOT, EQUAL, 0, SLOT);
@@ -130,7 +155,7 @@ static void idle_workload(struct workload *w) {
 static void deep_workload(struct workload *w) {
   w->name = "deepest (stack only)";
   begin_pattern(w, 12, "\x18\x18\x18\x18\x18\x18\x28\x28\x28\x28\x28\x28", 0xffffffffff);
-  for (unsigned v = 0; v < 6; v++) with_constant(w, v, CLASS, EQUAL, 0);
+  for (unsigned v = 0; v < 6; v++) own_conditions(w, v, 0);
   for (unsigned v = 0; v < 5; v++) {
     with_variable(w, v, SLOT, ABOVE, 5, SLOT);
     for (unsigned u = v + 1; u < 5; u++) {
@@ -141,9 +166,10 @@ static void deep_workload(struct workload *w) {
   for (size_t i = 0; i < RECORDS; i++) put_record(w, i, 0, i % 128 == 0 ? 0 : 5, (uint32_t)i, 0);
 }
 
-void make_workload(unsigned number, struct workload *out) {
+void make_workload(unsigned number, enum asked asked, struct workload *out) {
   static void (*const make[])(struct workload *) = {bench_workload, sparse_workload, branching_workload,
                                                     joins_workload, idle_workload,   deep_workload};
+  way = asked;
   chance_state = 2463534242u;
   out->block_len = sizeof out->block;
   make[number](out);
