@@ -275,6 +275,7 @@ module _ (p : Pattern) (o : InOrder p) (plan : List ℕ) (is : IsPlan p plan) wh
         joins = λ v l. rw (joins-in p plan is v l) (joins-bound v);
         form = joins-named;
         attribute = each-condition (λ k. k .attribute ≤ lastAttribute) (o .attribute) (omega arith);
+        attribute2 = each-condition (λ k. k .attribute2 ≤ lastAttribute) (o .attribute2) (omega arith);
         operator = each-condition (λ k. k .operator ≤ lastOperator) (o .operator) (omega arith);
         tells = is .tells;
       }

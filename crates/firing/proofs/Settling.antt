@@ -5,10 +5,11 @@ use mathlib.Core.List.{List}
 use Prim.Native.Nat.{ℕ, suc, _-_, _*_, _^_, _≤_, _<_}
 use native.Mathlib.Nat.{lt-of-le-of-lt, sub-le, pow-suc, one-mul, zero-mul}
 use native.Mathlib.Omega.{arith}
-use borrow.Author.Tests.{eq-eqb, ne-eqb, eqb-true}
+use borrow.Author.Tests.{eq-eqb, ne-eqb, eqb-true, eqb-false}
 use lib.Bits.{bitAnd, and-le-r}
 use lib.Dec.{eqb, ltb}
 use lib.IntN.{pos}
+use lib.ListN.{getD}
 use lib.Pow.{pow-pos, pow-mono}
 use Rattle.numbers.specs.Numbers.{every, oneIf}
 use Rattle.numbers.specs.Bits.{bit, mask}
@@ -18,12 +19,13 @@ use Rattle.numbers.proofs.Bits.{bit-high, bit-zero, bit-and, bit-weight, bits-s
 use Rattle.records.specs.declared.Record.{Record}
 use Rattle.records.specs.Records.{recordAt}
 use Rattle.patterns.specs.declared.Condition.{Condition}
-use Rattle.patterns.specs.Comparison.{value, raise, constantValue, orderOf, meets, holds}
-use Rattle.patterns.proofs.Comparison.{compared-constant, raised-holds}
+use Rattle.patterns.specs.Patterns.{lastAttribute}
+use Rattle.patterns.specs.Comparison.{value, raise, constantValue, comparedWith, orderOf, meets, holds}
+use Rattle.patterns.proofs.Comparison.{compared-constant, compared-value, raised-holds}
 use Rattle.automaton.specs.Lists.{implies}
 use Rattle.automaton.proofs.Lists.{clash}
 use Rattle.firing.specs.Plan.{classAttribute, otherOwn, isOther, otherMask, bothSides, conditionIn, othersIn, Classed}
-use Rattle.firing.specs.Firing.{ownHolds, otherHolds, settled, settledValue, settledBy}
+use Rattle.firing.specs.Firing.{ownHolds, otherHolds, settled, settledOrder, valuesOf, settledBy}
 use Rattle.firing.proofs.Own.{settled-holds, settled-fails, settled-mask}
 use Rattle.firing.proofs.Joins.{less-bit}
 
@@ -136,7 +138,16 @@ module _ (plan bytes : List ℕ) (i n c kind can : ℕ) where
       left-less s (f ∙ ap (λ (x : ℕ). settled x (conditionIn plan at) (recordAt bytes i)) e) ∙ ap leftBy (sym g),
     )
 
--- ## Conditions that compare an attribute with the constant
+-- ## What the raised numbers settle
+
+module _ (k : Condition) (own : eqb (k .form) 0 || eqb (k .variable) (k .variable2) ≡ true) (can x y : ℕ) (r : Record) where
+  pub order-settled : x ≡ raise (value (k .attribute) r) → y ≡ raise (comparedWith k r) → settledOrder can k x y ≡ settled can k r
+  unfolding settledOrder
+  order-settled e f =
+      let same = raised-holds k r r x y e f in
+      by-test (holds k r r)
+      (λ h. rw (same ∙ h, settledOrder) (sym (settled-holds can k r own h)))
+      (λ h. rw (same ∙ h, settledOrder) (sym (settled-fails can k r own h)))
 
 module _ (kind : ℕ) (k : Condition) (known : kind < bothSides) (is : isOther kind k ≡ true) where
   -- they are of form 0
@@ -147,23 +158,53 @@ module _ (kind : ℕ) (k : Condition) (known : kind < bothSides) (is : isOther k
       (λ f. eqb-true (k .form) 0 f)
       (λ f. clash is (rw (f, ne-eqb kind bothSides (λ e. omega arith), otherOwn)))
 
-  pub other-attribute : k .attribute ≡ kind
+  other-attribute : k .attribute ≡ kind
   unfolding otherOwn
   other-attribute =
       let asked : eqb (k .attribute) kind && not (eqb (k .attribute) classAttribute) ≡ true = rw (eq-eqb (k .form) 0 other-form, otherOwn) at is in
       eqb-true (k .attribute) kind (both (eqb (k .attribute) kind) (not (eqb (k .attribute) classAttribute)) asked .0)
 
-  -- the raised numbers settle what the condition settles
-  pub value-settled : (can x : ℕ) (r : Record) → x ≡ raise (value kind r) → settledValue can k x ≡ settled can k r
-  unfolding settledValue
-  value-settled can x r e =
-      let own : eqb (k .form) 0 || eqb (k .variable) (k .variable2) ≡ true = ap (λ (t : Bool). t || eqb (k .variable) (k .variable2)) (eq-eqb (k .form) 0 other-form) in
-      let y = raise (constantValue (k .attribute) (k .constant)) in
-      let same : meets (k .operator) (orderOf (pos x) (pos y)) ≡ holds k r r =
-      raised-holds k r r x y (e ∙ ap (λ (a : ℕ). raise (value a r)) (sym other-attribute)) (ap raise (sym (compared-constant k r other-form))) in
-      by-test (holds k r r)
-      (λ h. rw (same ∙ h, settledValue) (sym (settled-holds can k r own h)))
-      (λ h. rw (same ∙ h, settledValue) (sym (settled-fails can k r own h)))
+  -- an attribute beside the constant
+  pub value-settled : (can x y : ℕ) (r : Record) → x ≡ raise (value kind r) → y ≡ raise (constantValue kind (k .constant)) → settledOrder can k x y ≡ settled can k r
+  value-settled can x y r e f =
+      order-settled k
+      (ap (λ (t : Bool). t || eqb (k .variable) (k .variable2)) (eq-eqb (k .form) 0 other-form))
+      can x y r
+      (e ∙ ap (λ (a : ℕ). raise (value a r)) (sym other-attribute))
+      (f ∙ ap (λ (a : ℕ). raise (constantValue a (k .constant))) (sym other-attribute) ∙ ap raise (sym (compared-constant k r other-form)))
+
+module _ (k : Condition) (is : isOther bothSides k ≡ true) (few : k .attribute ≤ lastAttribute) where
+  -- they are of form 1, with one variable
+  sides-form : eqb (k .form) 0 ≡ false
+  unfolding otherOwn
+  sides-form =
+      by-test (eqb (k .form) 0)
+      (λ f. clash is (rw (f, ne-eqb (k .attribute) bothSides (λ e. omega arith), otherOwn)))
+      (λ f. f)
+
+  sides-own : eqb (k .form) 0 || eqb (k .variable) (k .variable2) ≡ true
+  unfolding otherOwn
+  sides-own = let asked : eqb bothSides bothSides && eqb (k .variable) (k .variable2) ≡ true = rw (sides-form, otherOwn) at is in rw (sides-form, asked)
+
+  -- two attributes of the event
+  pub sides-settled : (can x y : ℕ) (r : Record) → x ≡ raise (value (k .attribute) r) → y ≡ raise (value (k .attribute2) r) → settledOrder can k x y ≡ settled can k r
+  sides-settled can x y r e f =
+      order-settled k sides-own can x y r e
+      (f ∙ ap raise (sym (compared-value k r (eqb-false (k .form) 0 sides-form))))
+
+-- each attribute stands at its place among the values
+pub value-at : (r : Record) (a : ℕ) → a ≤ lastAttribute → getD (valuesOf r) a 0 ≡ raise (value a r)
+unfolding valuesOf
+value-at r a l =
+    by-order a 1
+    (λ h. let e : a ≡ 0 = omega arith in rw e)
+    (λ h. by-order a 2
+    (λ i. let e : a ≡ 1 = omega arith in rw e)
+    (λ i. by-order a 3
+    (λ j. let e : a ≡ 2 = omega arith in rw e)
+    (λ j. by-order a 4
+    (λ k. let e : a ≡ 3 = omega arith in rw e)
+    (λ k. let e : a ≡ 4 = omega arith in rw e))))
 
 -- ## A variable taken out of a mask
 
@@ -191,14 +232,13 @@ weight-fits true v l = let m : v ≤ 16 = omega arith in omega (arith, one-mul (
 weight-fits false v l = omega (arith, zero-mul (2 ^ v))
 
 -- taken out where the test fails
-pub taken-out : (can : ℕ) (k : Condition) (x lost : ℕ) → lost ≡ oneIf (not (meets (k .operator) (orderOf (pos x) (pos (raise (constantValue (k .attribute) (k .constant))))))) * 2 ^ k .variable → can - bitAnd can lost ≡ settledValue can k x
-unfolding settledValue
-taken-out can k x lost e =
-    let met = meets (k .operator) (orderOf (pos x) (pos (raise (constantValue (k .attribute) (k .constant))))) in
-    by-test met
+pub taken-out : (can : ℕ) (k : Condition) (x y lost : ℕ) → lost ≡ oneIf (not (meets (k .operator) (orderOf (pos x) (pos y)))) * 2 ^ k .variable → can - bitAnd can lost ≡ settledOrder can k x y
+unfolding settledOrder
+taken-out can k x y lost e =
+    by-test (meets (k .operator) (orderOf (pos x) (pos y)))
     (λ h.
     let none : lost ≡ 0 = e ∙ ap (λ (t : Bool). oneIf (not t) * 2 ^ k .variable) h ∙ zero-mul (2 ^ k .variable) in
-    rw (h, settledValue) (omega (arith, ap (bitAnd can) none, and-le-r can 0)))
+    rw (h, settledOrder) (omega (arith, ap (bitAnd can) none, and-le-r can 0)))
     (λ h.
     let one : lost ≡ 2 ^ k .variable = e ∙ ap (λ (t : Bool). oneIf (not t) * 2 ^ k .variable) h ∙ one-mul (2 ^ k .variable) in
-    rw (h, settledValue) (ap (λ (y : ℕ). can - y) (ap (bitAnd can) one ∙ and-weight can (k .variable))))
+    rw (h, settledOrder) (ap (λ (y : ℕ). can - y) (ap (bitAnd can) one ∙ and-weight can (k .variable))))

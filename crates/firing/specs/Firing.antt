@@ -15,7 +15,7 @@ use Rattle.records.specs.Records.{recordBytes, recordAt}
 use Rattle.patterns.specs.declared.Condition.{Condition}
 use Rattle.patterns.specs.declared.Pattern.{Pattern}
 use Rattle.patterns.specs.Patterns.{mostVariables, mostConditions}
-use Rattle.patterns.specs.Comparison.{value, constantValue, orderOf, meets, holds, raise}
+use Rattle.patterns.specs.Comparison.{value, orderOf, meets, holds, raise}
 use Rattle.automaton.specs.Lists.{implies, all}
 use Rattle.rule.specs.Rule.{Binding, Reading, lastOf}
 use Rattle.rule.specs.Promises.{mostBindings}
@@ -45,14 +45,18 @@ settled can k r =
 unfoldable pub settledOnClass : ℕ → Condition → Record → ℕ
 settledOnClass can k r = elim (isOnClass k) [ true ↦ settled can k r | false ↦ can ]
 
--- the mask without the variable of condition k, where k compares an attribute with the constant and fails of x, the
--- attribute's value raised
-unfoldable pub settledValue : ℕ → Condition → ℕ → ℕ
-settledValue can k x =
-    elim (meets (k .operator) (orderOf (pos x) (pos (raise (constantValue (k .attribute) (k .constant)))))) [
+-- the mask without the variable of condition k, where x does not stand to y as k's operator says
+unfoldable pub settledOrder : ℕ → Condition → ℕ → ℕ → ℕ
+settledOrder can k x y =
+    elim (meets (k .operator) (orderOf (pos x) (pos y))) [
       | true ↦ can
       | false ↦ can - oneIf (bit can (k .variable)) * 2 ^ k .variable
     ]
+
+-- a record's attributes, raised
+unfoldable pub valuesOf : Record → List ℕ
+valuesOf r =
+    raise (value 0 r) ∷ raise (value 1 r) ∷ raise (value 2 r) ∷ raise (value 3 r) ∷ raise (value 4 r) ∷ []
 
 -- condition k of the plan holds of record i for v, if it is one of the kind that looks at the new event alone
 unfoldable pub otherHolds : List ℕ → List ℕ → ℕ → ℕ → ℕ → ℕ → Bool

@@ -238,6 +238,7 @@ pub record Sound (plan : List ℕ) : Type 0 where
   pub joins : (v : ℕ) → v < mostVariables → joinsIn plan v < 2 ^ mostConditions
   pub form : (v i : ℕ) → v < mostVariables → bit (joinsIn plan v) i ≡ true → conditionIn plan i .form ≡ 0 → ⊥
   pub attribute : (i : ℕ) → i < mostConditions → conditionIn plan i .attribute ≤ lastAttribute
+  pub attribute2 : (i : ℕ) → i < mostConditions → conditionIn plan i .attribute2 ≤ lastAttribute
   pub operator : (i : ℕ) → i < mostConditions → conditionIn plan i .operator ≤ lastOperator
   pub tells : (i : ℕ) → i < mostConditions → Tells (getD plan i 0)
 

@@ -13,7 +13,7 @@ ghost use Rattle.patterns.specs.Checked.{InOrder, conditionAt};
 ghost use Rattle.patterns.specs.Comparison.{value, orderOf, meets, raise};
 ghost use Rattle.slots.specs.Slots.{bindingOf, bindingsIn, countIn, heldIn};
 ghost use Rattle.firing.specs.Plan.{planRoom, joins, standing, variableMask, joinMask, onClass, failingOf, bothSides, otherOwn, sampleOf, typePlaces, classMask, otherMask, Tells, IsWord, Placed, IsPlan, Sound, Classed};
-ghost use Rattle.firing.specs.Firing.{settled, settledOnClass, settledValue, settledBy, Settling, canBy, leavesBy, laterBy, sideOf, testedBy, pairMeets, joinsBy, agreesBy, Fit};
+ghost use Rattle.firing.specs.Firing.{settled, settledOnClass, settledOrder, valuesOf, settledBy, Settling, canBy, leavesBy, laterBy, sideOf, testedBy, pairMeets, joinsBy, agreesBy, Fit};
 use patterns::Condition;
 use patterns::Pattern;
 use records::Record;
@@ -352,15 +352,13 @@ fn fails(word: u64, x: u64, y: u64) -> u64
     (word >> (FIRST_ORDER + patterns::order(x, y))) % 2
 }
 
-// The mask without the variable of a condition that compares an attribute with the constant, where x, the attribute's
-// value raised, fails it.
-fn settle_value(can: u64, word: u64, attribute: u8, x: u64) -> u64
-    requires { ⌜ Tells word × (conditionOf word .attribute ≡ attribute) ⌝ }
-    ensures { λ s. ⌜ s ≡ settledValue can (conditionOf word) x ⌝ }
+// The mask without the variable of a condition where x does not stand to y as its operator says.
+fn settle_order(can: u64, word: u64, x: u64, y: u64) -> u64
+    requires { ⌜ Tells word ⌝ }
+    ensures { λ s. ⌜ s ≡ settledOrder can (conditionOf word) x y ⌝ }
 {
-    let k = patterns::unpack_condition(word);
-    let y = patterns::raised_constant(attribute, k.constant);
-    let lost = fails(word, x, y) * numbers::weight(k.variable as usize);
+    let variable = patterns::unpack_condition(word).variable;
+    let lost = fails(word, x, y) * numbers::weight(variable as usize);
     can - (can & lost)
 }
 
@@ -385,10 +383,32 @@ fn settle_attribute(
     let mut left = can;
     while rest != 0 {
         let at = numbers::lowest_bit(rest);
-        left = settle_value(left, plan[at], attribute, x);
+        let word = plan[at];
+        let constant = patterns::unpack_condition(word).constant;
+        left = settle_order(
+            left,
+            word,
+            x,
+            patterns::raised_constant(attribute, constant),
+        );
         rest = numbers::without_lowest(rest);
     }
     left
+}
+
+// The five attributes of record i, raised.
+fn values_of(block: &[u8], i: usize) -> [u64; 5]
+    requires { ⌜ recordBytes * i + recordBytes ≤ length (now block) ⌝ }
+    ensures { λ r. ⌜ r ≡ valuesOf (recordAt (now (block .entry)) i) ⌝ }
+{
+    let r = records::unpack(block, i);
+    [
+        patterns::raised_value(CORE, r),
+        patterns::raised_value(TYPE, r),
+        patterns::raised_value(CLASS, r),
+        patterns::raised_value(SLOT, r),
+        patterns::raised_value(AMOUNT, r),
+    ]
 }
 
 // The variables of the mask whose conditions with one variable on both sides hold of record i.
@@ -397,10 +417,17 @@ fn settle_both(plan: &[u64; 102], n: usize, c: usize, can: u64, block: &[u8], i:
     ensures { λ r. ⌜ r ≡ settledBy (now (plan .entry)) n c (now (block .entry)) i bothSides can ⌝ }
 {
     let mut rest = plan[OTHERS + BOTH_SIDES as usize];
+    if rest == 0 {
+        return can;
+    }
+    let values = values_of(block, i);
     let mut left = can;
     while rest != 0 {
         let at = numbers::lowest_bit(rest);
-        left = settle(left, plan[at], records::unpack(block, i));
+        let word = plan[at];
+        let k = patterns::unpack_condition(word);
+        let x = values[k.attribute as usize];
+        left = settle_order(left, word, x, values[k.attribute2 as usize]);
         rest = numbers::without_lowest(rest);
     }
     left

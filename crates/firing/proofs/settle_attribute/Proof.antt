@@ -6,10 +6,11 @@ use native.Mathlib.Omega.{arith}
 use lib.Pow.{pow-pos}
 use Rattle.records.specs.declared.Record.{Record}
 use Rattle.records.specs.Records.{recordAt}
-use Rattle.patterns.specs.Comparison.{value, raise}
+use Rattle.patterns.specs.declared.Condition.{Condition}
+use Rattle.patterns.specs.Comparison.{value, raise, constantValue}
 use Rattle.firing.specs.Plan.{conditionIn, othersIn}
 use Rattle.firing.proofs.Joins.{weight-le}
-use Rattle.firing.proofs.Settling.{OfKind, bit-below, leftBy, others-bound, others-kind, left-first, left-all, left-turn, other-attribute, value-settled}
+use Rattle.firing.proofs.Settling.{OfKind, bit-below, leftBy, others-bound, others-kind, left-first, left-all, left-turn, value-settled}
 use borrow.Author.Needs.{needs}
 use Rattle.firing.proofs.settle_attribute.Statement.{statement}
 use Rattle.firing.proofs.settle_attribute.Tie as tie
@@ -57,45 +58,54 @@ loop-holds c =
 lowest-bit-requires : tie.Need-lowest-bit-requires Inv-loop μ-loop
 lowest-bit-requires c κs = omega arith
 
-mul-settle-value : tie.Need-mul-settle-value Inv-loop μ-loop
-mul-settle-value c = let s = c .lowest-bit .ensures .small in omega arith
+mul-word : tie.Need-mul-word Inv-loop μ-loop
+mul-word c = let s = c .lowest-bit .ensures .small in omega arith
 
-element-copy-out-settle-value : tie.Need-element-copy-out-settle-value Inv-loop μ-loop
-element-copy-out-settle-value c = let s = c .lowest-bit .ensures .small in let size = c .before .before .before .before .before .before .before .before .pre .0 .sound .size in omega arith
+element-copy-out-word : tie.Need-element-copy-out-word Inv-loop μ-loop
+element-copy-out-word c = let s = c .lowest-bit .ensures .small in let size = c .before .before .before .before .before .before .before .before .pre .0 .sound .size in omega arith
 
-settle-value-requires : tie.Need-settle-value-requires Inv-loop μ-loop
-settle-value-requires c κs =
-    let st = c .before .before .before .before .before .before .before .before .before in
+unpack-condition-requires : tie.Need-unpack-condition-requires Inv-loop μ-loop
+unpack-condition-requires c κs = search needs
+
+raised-constant-requires : tie.Need-raised-constant-requires Inv-loop μ-loop
+raised-constant-requires c κs = search needs
+
+settle-order-requires : tie.Need-settle-order-requires Inv-loop μ-loop
+settle-order-requires c κs =
+    let st = c .before .before .before .before .before .before .before .before .before .before .before in
     let p = st .pre .0 in
-    let l = c .before .before .before .loop in
-    let low = c .before .lowest-bit in
+    let l = c .before .before .before .before .before .loop in
+    let low = c .before .before .before .lowest-bit in
     let below = bit-below (l .rest) (st .args .c) (low .result) (l .inv .0) (low .ensures .here) in
     let few = p .conditions in
-    let at : low .result < 32 = omega arith in
-    (p .sound .tells (low .result) at, other-attribute (st .args .attribute) (conditionIn (st .args .plan .now) (low .result)) (st .pre .1) (l .inv .1 .each (low .result) (low .ensures .here)))
+    p .sound .tells (low .result) (omega arith)
 
 without-lowest-requires : tie.Need-without-lowest-requires Inv-loop μ-loop
 without-lowest-requires c κs = omega arith
 
 loop-less : tie.Need-loop-less Inv-loop μ-loop
 loop-less c =
-    let low = c .before .before .before .lowest-bit in
-    let l = c .before .before .before .before .before .loop in
+    let low = c .before .before .before .before .before .lowest-bit in
+    let l = c .before .before .before .before .before .before .before .loop in
     omega (arith, c .without-lowest .ensures (low .result) (low .ensures), weight-le (l .rest) (low .result) (low .ensures .here), pow-pos (low .result))
 
 loop-again : tie.Need-loop-again Inv-loop μ-loop
 loop-again c =
-    let st = c .before .before .before .before .before .before .before .before .before .before .before in
+    let st = c .before .before .before .before .before .before .before .before .before .before .before .before .before in
     let a = st .args in
-    let l = c .before .before .before .before .before .loop in
-    let low = c .before .before .before .lowest-bit in
+    let l = c .before .before .before .before .before .before .before .loop in
+    let low = c .before .before .before .before .before .lowest-bit in
     let k = conditionIn (a .plan .now) (low .result) in
-    let seen = c .before .before .before .before .before .before .raised-value in
-    let read = c .before .before .before .before .before .before .before .unpack in
-    let settled = c .before .settle-value in
+    let seen = c .before .before .before .before .before .before .before .before .raised-value in
+    let read = c .before .before .before .before .before .before .before .before .before .unpack in
+    let constant = c .before .before .raised-constant in
+    let taken = c .before .settle-order in
     left-turn (a .plan .now) (a .block .now) (a .i) (a .n) (a .c) (a .attribute) (a .can) (l .rest) (low .result) (l .inv .0) (low .ensures .here) (l .inv .1)
-    (l .left) (settled .result) (c .without-lowest .result) (l .inv .2)
-    (settled .ensures ∙ value-settled (a .attribute) k (st .pre .1) (l .inv .1 .each (low .result) (low .ensures .here)) (l .left) (seen .result) (recordAt (a .block .now) (a .i)) (seen .ensures ∙ ap (λ (r : Record). raise (value (a .attribute) r)) (read .ensures)))
+    (l .left) (taken .result) (c .without-lowest .result) (l .inv .2)
+    (taken .ensures
+    ∙ value-settled (a .attribute) k (st .pre .1) (l .inv .1 .each (low .result) (low .ensures .here)) (l .left) (seen .result) (constant .result) (recordAt (a .block .now) (a .i))
+    (seen .ensures ∙ ap (λ (r : Record). raise (value (a .attribute) r)) (read .ensures))
+    (constant .ensures ∙ ap (λ (j : Condition). raise (constantValue (a .attribute) (j .constant))) (c .before .before .before .unpack-condition .ensures)))
     (c .without-lowest .ensures (low .result) (low .ensures))
 
 returns-2 : tie.Need-returns-2 Inv-loop μ-loop
@@ -118,9 +128,11 @@ settle-attribute-spec =
     raised-value-requires
     loop-holds
     lowest-bit-requires
-    mul-settle-value
-    element-copy-out-settle-value
-    settle-value-requires
+    mul-word
+    element-copy-out-word
+    unpack-condition-requires
+    raised-constant-requires
+    settle-order-requires
     without-lowest-requires
     loop-less
     loop-again
