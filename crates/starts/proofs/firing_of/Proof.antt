@@ -33,13 +33,13 @@ without-bit-requires : tie.Need-without-bit-requires Inv-loop μ-loop
 without-bit-requires c κs = c .lowest-bit .ensures .small
 
 is-later-requires : tie.Need-is-later-requires Inv-loop μ-loop
-is-later-requires c κs = 
+is-later-requires c κs =
     let h = c .before .before .before .loop in
     let low = c .before .lowest-bit in
     (c .before .before .before .before .before .before .pre .1, low-bits (h .rest) mostVariables (low .result) (h .inv .0) (low .ensures .here))
 
 loop-less : tie.Need-loop-less Inv-loop μ-loop
-loop-less c = 
+loop-less c =
     let h = c .before .before .before .before .before .loop in
     let low = c .before .before .before .lowest-bit in
     let less = rest-less (h .rest) (low .result) 64 (omega (arith, c .before .before .before .before .loop-test .taken)) (low .ensures) in
@@ -47,7 +47,7 @@ loop-less c =
     omega arith
 
 loop-again : tie.Need-loop-again Inv-loop μ-loop
-loop-again c = 
+loop-again c =
     let a = c .before .before .before .before .before .before .before .before .args in
     let h = c .before .before .before .before .before .loop in
     let low = c .before .before .before .lowest-bit in
@@ -61,7 +61,7 @@ loop-again c =
     (omega arith, omega arith)
 
 joins-hold-requires : tie.Need-joins-hold-requires Inv-loop μ-loop
-joins-hold-requires c κs = 
+joins-hold-requires c κs =
     let h = c .before .before .before .before .before .loop in
     let low = c .before .before .before .lowest-bit in
     (c .before .before .before .before .before .before .before .before .pre .1, low-bits (h .rest) mostVariables (low .result) (h .inv .0) (low .ensures .here))
@@ -71,7 +71,7 @@ weight-if-requires c κs = c .before .before .before .before .lowest-bit .ensure
 
 add-firing : tie.Need-add-firing Inv-loop μ-loop
 unfolding heldIn
-add-firing c = 
+add-firing c =
     let a = c .before .before .before .before .before .before .before .before .before .before .args in
     let h = c .before .before .before .before .before .before .before .loop in
     let low = c .before .before .before .before .before .lowest-bit in
@@ -83,7 +83,7 @@ add-firing c =
     omega arith
 
 loop-less-2 : tie.Need-loop-less-2 Inv-loop μ-loop
-loop-less-2 c = 
+loop-less-2 c =
     let h = c .before .before .before .before .before .before .before .loop in
     let low = c .before .before .before .before .before .lowest-bit in
     let less = rest-less (h .rest) (low .result) 64 (omega (arith, c .before .before .before .before .before .before .loop-test .taken)) (low .ensures) in
@@ -92,7 +92,7 @@ loop-less-2 c =
 
 loop-again-2 : tie.Need-loop-again-2 Inv-loop μ-loop
 unfolding heldIn
-loop-again-2 c = 
+loop-again-2 c =
     let a = c .before .before .before .before .before .before .before .before .before .before .args in
     let h = c .before .before .before .before .before .before .before .loop in
     let low = c .before .before .before .before .before .lowest-bit in
