@@ -1,4 +1,4 @@
--- A slot with one binding more, as `slots::bind` and `slots::grown` store it, and the slot of zeros. Assumes nothing.
+-- A slot with one binding more, as `slots::bind` stores it, and the slot of zeros. Assumes nothing.
 use mathlib.Core.Path.{_≡_, ap, _∙_}
 use mathlib.Core.List.{List, _∷_}
 use Prim.Native.Nat.{ℕ, suc, _+_, _*_, _^_, _/_, _%_, _<_}

@@ -99,25 +99,6 @@ pub fn bind(slot: &mut [u8], i: usize, v: usize)
     slot[at + 1] = (binding % 256) as u8;
 }
 
-// The slot with one binding more: variable v to record i. It does not go by `bind`, which would read from the copy that was
-// stored just before: a start-by-start call took a tenth longer.
-pub fn grown(slot: [u8; 80], i: usize, v: usize) -> [u8; 80]
-    requires { ⌜ (length slot ≡ slotBytes) × (countIn slot < 32) × (v < 12) × (i < 4096) ⌝ }
-    ensures { λ r. ⌜ (heldIn r ≡ grow i v (heldIn slot)) × (length r ≡ slotBytes) × (countIn r ≡ countIn slot + 1) ⌝ }
-{
-    let mut more = slot;
-    let count = count_of(&slot);
-    let state = numbers::with_bit(numbers::number2(&slot, 2) as u64, v);
-    let at = 4 + 2 * count;
-    let binding = v * RECORD_NUMBERS + i;
-    more[1] = (count + 1) as u8;
-    more[2] = (state / 256) as u8;
-    more[3] = (state % 256) as u8;
-    more[at] = (binding / 256) as u8;
-    more[at + 1] = (binding % 256) as u8;
-    more
-}
-
 // All bytes from a place on 0.
 pub fn clear_from(bytes: &mut [u8], at: usize)
     requires { ⌜ at ≤ length (now bytes) ⌝ }

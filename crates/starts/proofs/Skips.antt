@@ -23,7 +23,7 @@ use Rattle.starts.specs.declared.Start.{Start}
 use Rattle.starts.specs.declared.Fire.{Fire}
 use Rattle.starts.specs.declared.Counts.{Counts}
 use Rattle.starts.specs.Sinks.{Sink, sinkOf, emit, emits}
-use Rattle.starts.specs.Skips.{Reads, Ready, Firing, NextBy, Of, Closed, Skipped, branchOver, Branched}
+use Rattle.starts.specs.Skips.{Reads, Ready, Taking, Firing, NextBy, Of, Closed, Skipped, branchOver, Branched}
 use Rattle.starts.proofs.Sinks.{emits-append, sink-same}
 use Rattle.starts.proofs.Readings.{next-is, firing-is, firing-bound, grown-bindings, grown-reads}
 use Rattle.starts.proofs.Turns.{turn-none, turn-lowest, mask-turn, low-bits, rest-known}
@@ -57,50 +57,41 @@ module _ (plan bytes : List ℕ) (s : Start) (slot : List ℕ) (j : ℕ) where
       }
 
   module _ (firing v : ℕ) (at : Firing plan bytes s slot j firing) (low : IsLowestBit 64 firing v) where
-    pub lowest-known : v < s .n
-    lowest-known = at .known v (low .here)
+    pub lowest-taking : Taking plan bytes s slot j v
+    lowest-taking =
+        record {
+          ready = at .ready;
+          before = at .before;
+          room = at .room;
+          known = at .known v (low .here);
+        }
 
-    module _ (more : List ℕ) (e : heldIn more ≡ grow j v (heldIn slot)) where
-      pub grown-ready : length more ≡ slotBytes → countIn more ≡ countIn slot + 1 → Ready plan bytes s more (j + 1)
-      grown-ready size count =
-          let ready = at .ready in
-          record {
-            usable = ready .usable;
-            mark = ready .mark;
-            block = ready .block;
-            within = let l = at .before in omega arith;
-            reads = grown-reads slot more j v e (s .n) (ready .reads) (ready .usable .variables) lowest-known size count (at .room);
-          }
-
-      pub branch-takes :
-          (rest : ℕ) (before middle after : Sink) → rest ≡ firing - oneIf (bit firing v) * 2 ^ v
-          → Skipped plan bytes s more (j + 1) before middle
-          → Branched plan bytes s slot j rest middle after
-          → Branched plan bytes s slot j firing before after
-      branch-takes rest before middle after q first others = record { found = found }
-        where
-          found : (p : Pattern) → Of p plan bytes (s .n) (s .c) → after ≡ emits before (branchOver p (recordsOf bytes) (s .mark) (s .until) j (heldIn slot .bindings) firing)
-          found p o =
-              let next : ℕ → List Found = λ w. skipUntil p (recordsOf bytes) (s .mark) (s .until) (suc j) (withBinding (heldIn slot .bindings) w j) in
-              let few = at .ready .usable .variables in
-              let known = lowest-known in
-              let same = o .variables in
-              let here : middle ≡ emits before (next v) =
-              first .found p o
-              ∙ (λ i. emits before (skipUntil p (recordsOf bytes) (s .mark) (s .until) (add-one j i) (grown-bindings slot more j v e i))) in
-              others .found p o
-              ∙ ap (λ (x : Sink). emits x (inTurn (bit rest) next 0 (p .n))) here
-              ∙ sym (emits-append before (next v) (inTurn (bit rest) next 0 (p .n)))
-              ∙ ap (emits before)
-              (ap (λ (k : ℕ). next v ++ inTurn (bit k) next 0 (p .n)) q
-              ∙ sym (turn-lowest next (p .n) firing v 64 (omega arith) (at .variables) low (omega arith)))
+    pub branch-takes :
+        (rest : ℕ) (before middle after : Sink) → rest ≡ firing - oneIf (bit firing v) * 2 ^ v
+        → Skipped plan bytes s slot j v before middle
+        → Branched plan bytes s slot j rest middle after
+        → Branched plan bytes s slot j firing before after
+    branch-takes rest before middle after q first others = record { found = found }
+      where
+        found : (p : Pattern) → Of p plan bytes (s .n) (s .c) → after ≡ emits before (branchOver p (recordsOf bytes) (s .mark) (s .until) j (heldIn slot .bindings) firing)
+        found p o =
+            let next : ℕ → List Found = λ w. skipUntil p (recordsOf bytes) (s .mark) (s .until) (suc j) (withBinding (heldIn slot .bindings) w j) in
+            let few = at .ready .usable .variables in
+            let known = lowest-taking .known in
+            let same = o .variables in
+            others .found p o
+            ∙ ap (λ (x : Sink). emits x (inTurn (bit rest) next 0 (p .n))) (first .found p o)
+            ∙ sym (emits-append before (next v) (inTurn (bit rest) next 0 (p .n)))
+            ∙ ap (emits before)
+            (ap (λ (k : ℕ). next v ++ inTurn (bit k) next 0 (p .n)) q
+            ∙ sym (turn-lowest next (p .n) firing v 64 (omega arith) (at .variables) low (omega arith)))
 
     -- the variables that are left
     pub rest-firing : (rest : ℕ) → rest ≡ firing - oneIf (bit firing v) * 2 ^ v → Firing plan bytes s slot j rest
     rest-firing rest q =
         let small = at .variables in
         let few = at .ready .usable .variables in
-        let known = lowest-known in
+        let known = lowest-taking .known in
         rw q
         (record {
           ready = at .ready;
@@ -112,70 +103,98 @@ module _ (plan bytes : List ℕ) (s : Start) (slot : List ℕ) (j : ℕ) where
 
   -- ## Skip
 
-  module _ (ready : Ready plan bytes s slot j) (f : Fire) (next : NextBy plan bytes s slot j f) where
-    pub skip-closes : f .at ≡ s .until → (before after : Sink) → Closed s slot before after → Skipped plan bytes s slot j before after
-    skip-closes e before after closed =
+  module _ (v : ℕ) (at : Taking plan bytes s slot j v) (more : List ℕ) (grown : (heldIn more ≡ grow j v (heldIn slot)) × (length more ≡ slotBytes) × (countIn more ≡ countIn slot + 1)) where
+    abbrev reading : Reading
+    reading = heldIn more .bindings
+
+    pub grown-ready : Ready plan bytes s more (j + 1)
+    grown-ready =
+        let ready = at .ready in
         record {
-          found = λ p o.
-              closed .found p (o .variables)
-              ∙ ap (emits before)
-              (sym (next-closes p (recordsOf bytes) (s .mark) (s .until) (heldIn slot .bindings) j (f .at) (next-is p plan bytes s slot j f o ready next) e));
+          usable = ready .usable;
+          mark = ready .mark;
+          block = ready .block;
+          within = let l = at .before in omega arith;
+          reads = grown-reads slot more j v (grown .0) (s .n) (ready .reads) (ready .usable .variables) (at .known) (grown .1) (grown .2) (at .room);
         }
 
-    module _ (ne : f .at ≡ s .until → ⊥) where
-      fires-before : f .at < s .until
-      fires-before = let l = next .upTo in omega (arith, ne)
+    -- what the grown slot's reading comes to
+    skipped :
+        (before after : Sink)
+        → ((p : Pattern) → Of p plan bytes (s .n) (s .c) → after ≡ emits before (skipUntil p (recordsOf bytes) (s .mark) (s .until) (j + 1) reading))
+        → Skipped plan bytes s slot j v before after
+    skipped before after found =
+        record {
+          found = λ p o.
+              found p o
+              ∙ (λ i. emits before (skipUntil p (recordsOf bytes) (s .mark) (s .until) (add-one j i) (grown-bindings slot more j v (grown .0) i)));
+        }
 
-      pub skip-notes :
-          countIn slot ≡ mostBindings → (memory : List ℕ) (counts o : Counts) → o .used ≡ counts .used → o .readings ≡ counts .readings → o .least ≡ min (counts .least) (f .at)
-          → Skipped plan bytes s slot j (sinkOf memory counts) (sinkOf memory o)
-      unfolding emits emit
-      skip-notes full memory counts o a b d =
-          record {
-            found = λ p of.
-                sink-same refl a b d
-                ∙ ap (emits (sinkOf memory counts))
-                (sym (next-over p (recordsOf bytes) (s .mark) (s .until) (heldIn slot .bindings) j (f .at) (next-is p plan bytes s slot j f of ready next) fires-before (omega (arith, length-heldIn slot))));
-          }
+    pub grown-closes : Reads (s .n) (s .until) more
+    grown-closes = reads-later (s .n) (j + 1) (s .until) more (grown-ready .within) (grown-ready .reads)
 
-      module _ (some : countIn slot ≡ mostBindings → ⊥) where
-        room : countIn slot < mostBindings
-        room = let few = ready .reads .few in omega (arith, some)
+    module _ (f : Fire) (next : NextBy plan bytes s more (j + 1) f) where
+      pub skip-closes : f .at ≡ s .until → (before after : Sink) → Closed s more before after → Skipped plan bytes s slot j v before after
+      skip-closes e before after closed =
+          skipped before after
+          (λ p o.
+          closed .found p (o .variables)
+          ∙ ap (emits before)
+          (sym (next-closes p (recordsOf bytes) (s .mark) (s .until) reading (j + 1) (f .at) (next-is p plan bytes s more (j + 1) f o grown-ready next) e)))
 
-        pub next-firing : Firing plan bytes s slot (f .at) (f .variables)
-        next-firing =
-            let l = fires-before in
-            let bound = firing-bound plan bytes (s .n) (s .c) (f .at) (heldIn slot) in
-            let here = next .here l in
-            let small : f .variables < 2 ^ s .n = rw here bound in
-            record {
-              ready =
-                  record {
-                    usable = ready .usable;
-                    mark = ready .mark;
-                    block = ready .block;
-                    within = next .upTo;
-                    reads = reads-later (s .n) j (f .at) slot (next .from) (ready .reads);
-                  };
-              before = l;
-              room = room;
-              variables = few-bits (s .n) (f .variables) (ready .usable .variables) small;
-              known = λ v t. low-bits (f .variables) (s .n) v small t;
-            }
+      module _ (ne : f .at ≡ s .until → ⊥) where
+        fires-before : f .at < s .until
+        fires-before = let l = next .upTo in omega (arith, ne)
 
-        pub skip-branches : (before after : Sink) → Branched plan bytes s slot (f .at) (f .variables) before after → Skipped plan bytes s slot j before after
-        skip-branches before after branched =
-            record {
-              found = λ p o.
-                  let reading : Reading = heldIn slot .bindings in
-                  let l = fires-before in
-                  let end = ready .block in
-                  let go : ℕ → List Found = λ w. skipUntil p (recordsOf bytes) (s .mark) (s .until) (suc (f .at)) (withBinding reading w (f .at)) in
-                  let here : f .variables ≡ mask (λ v. fires p (recordsOf bytes) reading v (f .at)) (p .n) =
-                  next .here l
-                  ∙ firing-is (s .n) j slot (ready .reads) (ready .usable .variables) p plan bytes (s .c) o (f .at) (next .from) (omega arith) in
-                  branched .found p o
-                  ∙ ap (emits before)
-                  (sym (next-takes p (recordsOf bytes) (s .mark) (s .until) reading j (f .at) (next-is p plan bytes s slot j f o ready next) l (omega (arith, room, length-heldIn slot))
-                  ∙ mask-turn (λ v. fires p (recordsOf bytes) reading v (f .at)) go (p .n) (f .variables) here));
-            }
+        pub skip-notes :
+            countIn more ≡ mostBindings → (memory : List ℕ) (counts o : Counts) → o .used ≡ counts .used → o .readings ≡ counts .readings → o .least ≡ min (counts .least) (f .at)
+            → Skipped plan bytes s slot j v (sinkOf memory counts) (sinkOf memory o)
+        unfolding emits emit
+        skip-notes full memory counts o a b d =
+            skipped (sinkOf memory counts) (sinkOf memory o)
+            (λ p of.
+            sink-same refl a b d
+            ∙ ap (emits (sinkOf memory counts))
+            (sym (next-over p (recordsOf bytes) (s .mark) (s .until) reading (j + 1) (f .at) (next-is p plan bytes s more (j + 1) f of grown-ready next) fires-before (omega (arith, length-heldIn more)))))
+
+        module _ (some : countIn more ≡ mostBindings → ⊥) where
+          room : countIn more < mostBindings
+          room = let few = grown-ready .reads .few in omega (arith, some)
+
+          pub next-firing : Firing plan bytes s more (f .at) (f .variables)
+          next-firing =
+              let ready = grown-ready in
+              let l = fires-before in
+              let bound = firing-bound plan bytes (s .n) (s .c) (f .at) (heldIn more) in
+              let here = next .here l in
+              let small : f .variables < 2 ^ s .n = rw here bound in
+              record {
+                ready =
+                    record {
+                      usable = ready .usable;
+                      mark = ready .mark;
+                      block = ready .block;
+                      within = next .upTo;
+                      reads = reads-later (s .n) (j + 1) (f .at) more (next .from) (ready .reads);
+                    };
+                before = l;
+                room = room;
+                variables = few-bits (s .n) (f .variables) (ready .usable .variables) small;
+                known = λ w t. low-bits (f .variables) (s .n) w small t;
+              }
+
+          pub skip-branches : (before after : Sink) → Branched plan bytes s more (f .at) (f .variables) before after → Skipped plan bytes s slot j v before after
+          skip-branches before after branched =
+              skipped before after
+              (λ p o.
+              let ready = grown-ready in
+              let l = fires-before in
+              let end = ready .block in
+              let go : ℕ → List Found = λ w. skipUntil p (recordsOf bytes) (s .mark) (s .until) (suc (f .at)) (withBinding reading w (f .at)) in
+              let here : f .variables ≡ mask (λ w. fires p (recordsOf bytes) reading w (f .at)) (p .n) =
+              next .here l
+              ∙ firing-is (s .n) (j + 1) more (ready .reads) (ready .usable .variables) p plan bytes (s .c) o (f .at) (next .from) (omega arith) in
+              branched .found p o
+              ∙ ap (emits before)
+              (sym (next-takes p (recordsOf bytes) (s .mark) (s .until) reading (j + 1) (f .at) (next-is p plan bytes s more (j + 1) f o ready next) l (omega (arith, room, length-heldIn more))
+              ∙ mask-turn (λ w. fires p (recordsOf bytes) reading w (f .at)) go (p .n) (f .variables) here)))

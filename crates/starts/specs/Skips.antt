@@ -66,6 +66,13 @@ pub record Ready (plan bytes : List ℕ) (s : Start) (slot : List ℕ) (j : ℕ)
   pub within : j ≤ s .until
   pub reads : Reads (s .n) j slot
 
+-- and where variable v is bound there
+pub record Taking (plan bytes : List ℕ) (s : Start) (slot : List ℕ) (j v : ℕ) : Type 0 where
+  pub ready : Ready plan bytes s slot j
+  pub before : j < s .until
+  pub room : countIn slot < mostBindings
+  pub known : v < s .n
+
 -- and where some of the variables fire
 pub record Firing (plan bytes : List ℕ) (s : Start) (slot : List ℕ) (j firing : ℕ) : Type 0 where
   pub ready : Ready plan bytes s slot j
@@ -96,11 +103,11 @@ pub record Of (p : Pattern) (plan bytes : List ℕ) (n c : ℕ) : Type 0 where
 pub record Closed (s : Start) (slot : List ℕ) (before after : Sink) : Type 0 where
   pub found : (p : Pattern) → s .n ≡ p .n → after ≡ emits before (close p (s .mark) (heldIn slot .bindings))
 
--- a reading that is held before record j
-pub record Skipped (plan bytes : List ℕ) (s : Start) (slot : List ℕ) (j : ℕ) (before after : Sink) : Type 0 where
+-- a reading that binds variable v to record j too
+pub record Skipped (plan bytes : List ℕ) (s : Start) (slot : List ℕ) (j v : ℕ) (before after : Sink) : Type 0 where
   pub found :
       (p : Pattern) → Of p plan bytes (s .n) (s .c)
-      → after ≡ emits before (skipUntil p (recordsOf bytes) (s .mark) (s .until) j (heldIn slot .bindings))
+      → after ≡ emits before (skipUntil p (recordsOf bytes) (s .mark) (s .until) (suc j) (withBinding (heldIn slot .bindings) v j))
 
 -- each of the firing variables in turn, at record j
 abbrev pub branchOver : Pattern → Block → ℕ → ℕ → ℕ → Reading → ℕ → List Found

@@ -16,7 +16,7 @@ ghost use Rattle.slots.specs.Slots.{slotBytes, countIn, heldIn};
 ghost use Rattle.firing.specs.Plan.{planRoom};
 ghost use Rattle.firing.specs.Firing.{Fit};
 ghost use Rattle.starts.specs.Sinks.{sinkOf, sum as sumTo, emit, emits, noneYet, answerBy, leftBy, measureBy};
-ghost use Rattle.starts.specs.Skips.{leavingBy, agreeingBy, Cans, Reads, Usable, Ready, Firing, NextBy, Closed, Skipped, Branched, OpenTo, StartIs, AllStarted};
+ghost use Rattle.starts.specs.Skips.{leavingBy, agreeingBy, Cans, Reads, Usable, Ready, Taking, Firing, NextBy, Closed, Skipped, Branched, OpenTo, StartIs, AllStarted};
 
 const RECORD_BYTES: usize = 16;
 
@@ -217,32 +217,35 @@ fn next_fire(
     }
 }
 
-// From a reading that is held before record j: on to the next record that fires.
+// From a reading that binds variable v to record j too: on to the next record that fires.
 fn skip(
     block: &[u8],
     plan: &[u64; 102],
     cans: &[u16; 4096],
     slot: slots::Slot,
     j: usize,
+    v: usize,
     s: Start,
     result: &mut [u8],
     counts: Counts,
 ) -> Counts
-    requires { ⌜ (Ready (now plan) (now block) s (slot .bytes) j) × Cans (now plan) (now block) (s .n) (s .c) (now cans) ⌝ }
-    ensures { λ o. ⌜ Skipped (now (plan .entry)) (now (block .entry)) s (slot .bytes) j (sinkOf (now (result .entry)) counts) (sinkOf (now (result .exit)) o) ⌝ }
+    requires { ⌜ (Taking (now plan) (now block) s (slot .bytes) j v) × Cans (now plan) (now block) (s .n) (s .c) (now cans) ⌝ }
+    ensures { λ o. ⌜ Skipped (now (plan .entry)) (now (block .entry)) s (slot .bytes) j v (sinkOf (now (result .entry)) counts) (sinkOf (now (result .exit)) o) ⌝ }
 {
-    let fire = next_fire(block, plan, cans, s, j, &slot.bytes);
+    let mut bytes = slot.bytes;
+    slots::bind(&mut bytes, j, v);
+    let fire = next_fire(block, plan, cans, s, j + 1, &bytes);
     if fire.at == s.until {
-        return close(result, &slot.bytes, s, counts);
+        return close(result, &bytes, s, counts);
     }
-    if slots::count_of(&slot.bytes) == MOST_BINDINGS {
+    if slots::count_of(&bytes) == MOST_BINDINGS {
         return note_over(counts, fire.at);
     }
     branch(
         block,
         plan,
         cans,
-        slot,
+        slots::Slot { bytes },
         fire.at,
         fire.variables,
         s,
@@ -270,18 +273,7 @@ fn branch(
     let mut rest = firing;
     while rest != 0 {
         let v = numbers::lowest_bit(rest);
-        let bytes = slot.bytes;
-        let more = slots::grown(bytes, j, v);
-        taken = skip(
-            block,
-            plan,
-            cans,
-            slots::Slot { bytes: more },
-            j + 1,
-            s,
-            result,
-            taken,
-        );
+        taken = skip(block, plan, cans, slot, j, v, s, result, taken);
         rest = numbers::without_bit(rest, v);
     }
     taken

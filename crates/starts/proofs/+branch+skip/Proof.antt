@@ -8,13 +8,13 @@ use lib.ListN.{length}
 use Rattle.starts.specs.Sinks.{Sink, sinkOf}
 use Rattle.starts.specs.Skips.{Firing, Branched}
 use Rattle.starts.proofs.Turns.{rest-less}
-use Rattle.starts.proofs.Skips.{reads-later, branch-done, lowest-known, grown-ready, branch-takes, rest-firing, skip-closes, skip-notes, next-firing, skip-branches}
+use Rattle.starts.proofs.Skips.{branch-done, lowest-taking, branch-takes, rest-firing, grown-ready, grown-closes, skip-closes, skip-notes, next-firing, skip-branches}
 use borrow.Fn.Kinds.{In}
 use borrow.Fn.PlainCycle.{Measures, is, falls, and}
 use Rattle.numbers.proofs.lowest_bit.Reads as lowest-bit-reads
 use Rattle.numbers.proofs.without_bit.Reads as without-bit-reads
 use Rattle.slots.proofs.count_of.Reads as count-of-reads
-use Rattle.slots.proofs.grown.Reads as grown-reads
+use Rattle.slots.proofs.bind.Reads as bind-reads
 use Rattle.starts.proofs.branch.Reads as branch
 use Rattle.starts.proofs.branch.Kinds as branch-kinds
 use Rattle.starts.proofs.+branch+skip.Lts-branch as branch-lts
@@ -27,12 +27,12 @@ use Rattle.starts.proofs.note_over.Reads as note-over-reads
 use Rattle.starts.proofs.+branch+skip.{statement}
 use Rattle.starts.proofs.+branch+skip.Tie.{close}
 
--- skip goes on to branch at its own record or a later one, branch to skip at the next record
+-- branch goes on to skip at its own record, skip to branch at a later one
 abbrev μ-branch : Measures 4 branch-kinds.ps ℕ
 μ-branch κs a = (a .1 .1 .1 .1 .1 .1 .0 .until - a .1 .1 .1 .1 .0) * 2
 
 abbrev μ-skip : Measures 4 skip-kinds.ps ℕ
-μ-skip κs a = (a .1 .1 .1 .1 .1 .0 .until - a .1 .1 .1 .1 .0) * 2 + 1
+μ-skip κs a = (a .1 .1 .1 .1 .1 .1 .0 .until - a .1 .1 .1 .1 .0) * 2 - 1
 
 abbrev branch-at : ℕ → In 4 branch-kinds.ps
 branch-at t = and 4 branch-kinds.ps (is 4 branch-kinds.ps μ-branch t) branch.Pre
@@ -51,8 +51,6 @@ abbrev of-branch : ℕ → branch-lts.Claims
 of-branch t = (
   lowest-bit-reads.Asked,
   lowest-bit-reads.Learnt,
-  grown-reads.Asked,
-  grown-reads.Learnt,
   skip-below t,
   skip.Post,
   without-bit-reads.Asked,
@@ -61,6 +59,8 @@ of-branch t = (
 
 abbrev of-skip : ℕ → skip-lts.Claims
 of-skip t = (
+  bind-reads.Asked,
+  bind-reads.Learnt,
   next-fire-reads.Asked,
   next-fire-reads.Learnt,
   close-reads.Asked,
@@ -85,68 +85,43 @@ branch-loop-holds t c = (refl, c .before .before .pre .1 .0, λ after b. b)
 branch-lowest-bit-requires : (t : ℕ) → branch-lts.Need-lowest-bit-requires (of-branch t) (branch-at t) branch.Post branch-Inv-loop branch-μ-loop
 branch-lowest-bit-requires t c κs = search needs
 
-branch-grown-requires : (t : ℕ) → branch-lts.Need-grown-requires (of-branch t) (branch-at t) branch.Post branch-Inv-loop branch-μ-loop
-branch-grown-requires t c κs =
-    let a = c .before .before .before .before .before .before .args in
+branch-skip-requires : (t : ℕ) → branch-lts.Need-skip-requires (of-branch t) (branch-at t) branch.Post branch-Inv-loop branch-μ-loop
+branch-skip-requires t c κs =
+    let st = c .before .before .before .before .before .before in
+    let a = st .args in
     let h = c .before .before .before .loop in
     let at = h .inv .1 in
     let low = c .before .lowest-bit in
-    let known = lowest-known (a .plan .now) (a .block .now) (a .s) (a .slot .bytes) (a .j) (h .rest) (low .result) at (low .ensures) in
-    let few = at .ready .usable .variables in
     let end = at .before in
-    let block = at .ready .block in
-    let records = at .ready .usable .records in
-    (at .ready .reads .size, at .room, omega arith, omega arith)
-
-branch-add-skip : (t : ℕ) → branch-lts.Need-add-skip (of-branch t) (branch-at t) branch.Post branch-Inv-loop branch-μ-loop
-branch-add-skip t c =
-    let at = c .before .before .before .before .before .before .before .pre .1 .0 in
-    let end = at .before in
-    let block = at .ready .block in
-    let records = at .ready .usable .records in
-    omega arith
-
-branch-skip-requires : (t : ℕ) → branch-lts.Need-skip-requires (of-branch t) (branch-at t) branch.Post branch-Inv-loop branch-μ-loop
-branch-skip-requires t c κs =
-    let st = c .before .before .before .before .before .before .before .before in
-    let a = st .args in
-    let h = c .before .before .before .before .before .loop in
-    let at = h .inv .1 in
-    let low = c .before .before .before .lowest-bit in
-    let more = c .before .grown in
-    let end = at .before in
-    let same = st .pre .0 in (
-      omega arith,
-      (grown-ready (a .plan .now) (a .block .now) (a .s) (a .slot .bytes) (a .j) (h .rest) (low .result) at (low .ensures) (more .result) (more .ensures .0) (more .ensures .1) (more .ensures .2), st .pre .1 .1),
-    )
+    let same = st .pre .0 in
+    (omega arith, (lowest-taking (a .plan .now) (a .block .now) (a .s) (a .slot .bytes) (a .j) (h .rest) (low .result) at (low .ensures), st .pre .1 .1))
 
 branch-without-bit-requires : (t : ℕ) → branch-lts.Need-without-bit-requires (of-branch t) (branch-at t) branch.Post branch-Inv-loop branch-μ-loop
-branch-without-bit-requires t c κs = c .before .before .before .before .before .before .lowest-bit .ensures .small
+branch-without-bit-requires t c κs = c .before .before .before .before .lowest-bit .ensures .small
 
 branch-loop-less : (t : ℕ) → branch-lts.Need-loop-less (of-branch t) (branch-at t) branch.Post branch-Inv-loop branch-μ-loop
 branch-loop-less t c =
-    let h = c .before .before .before .before .before .before .before .before .before .loop in
-    let some = c .before .before .before .before .before .before .before .before .loop-test .taken in
-    let low = c .before .before .before .before .before .before .before .lowest-bit in
+    let h = c .before .before .before .before .before .before .before .loop in
+    let some = c .before .before .before .before .before .before .loop-test .taken in
+    let low = c .before .before .before .before .before .lowest-bit in
     let less = rest-less (h .rest) (low .result) 64 (omega (arith, some)) (low .ensures) in
     let is = c .without-bit .ensures in
     omega arith
 
 branch-loop-again : (t : ℕ) → branch-lts.Need-loop-again (of-branch t) (branch-at t) branch.Post branch-Inv-loop branch-μ-loop
 branch-loop-again t c =
-    let a = c .before .before .before .before .before .before .before .before .before .before .before .before .args in
-    let h = c .before .before .before .before .before .before .before .before .before .loop in
+    let a = c .before .before .before .before .before .before .before .before .before .before .args in
+    let h = c .before .before .before .before .before .before .before .loop in
     let at = h .inv .1 in
-    let low = c .before .before .before .before .before .before .before .lowest-bit in
-    let more = c .before .before .before .before .before .grown in
+    let low = c .before .before .before .before .before .lowest-bit in
     let call = c .before .before .before .skip in
     let rest = c .without-bit in (
-      call .kept .1 .1 .1 .1 .1 .1 .0 ∙ h .inv .0,
+      call .kept .1 .1 .1 .1 .1 .1 .1 .0 ∙ h .inv .0,
       rest-firing (a .plan .now) (a .block .now) (a .s) (a .slot .bytes) (a .j) (h .rest) (low .result) at (low .ensures) (rest .result) (rest .ensures),
       λ after others.
           h .inv .2 after
           (branch-takes (a .plan .now) (a .block .now) (a .s) (a .slot .bytes) (a .j) (h .rest) (low .result) at (low .ensures)
-          (more .result) (more .ensures .0) (rest .result) (sinkOf (h .result) (h .taken)) (sinkOf (call .last .1 .1 .1 .1 .1 .1 .0) (call .result)) after
+          (rest .result) (sinkOf (h .result) (h .taken)) (sinkOf (call .last .1 .1 .1 .1 .1 .1 .1 .0) (call .result)) after
           (rest .ensures) (call .ensures) others),
     )
 
@@ -160,15 +135,47 @@ branch-returns t c =
     h .inv .2 (sinkOf (h .result) (h .taken))
     (branch-done (a .plan .now) (a .block .now) (a .s) (a .slot .bytes) (a .j) (h .rest) (sinkOf (h .result) (h .taken)) (c .loop-test .left))
 
+skip-slice-aggregate-bind : (t : ℕ) → skip-lts.Need-slice-aggregate-bind (of-skip t) (skip-at t) skip.Post
+skip-slice-aggregate-bind t c = search needs
+
+skip-bind-requires : (t : ℕ) → skip-lts.Need-bind-requires (of-skip t) (skip-at t) skip.Post
+skip-bind-requires t c κs =
+    let at = c .before .before .before .before .pre .1 .0 in
+    let known = at .known in
+    let few = at .ready .usable .variables in
+    let end = at .before in
+    let block = at .ready .block in
+    let records = at .ready .usable .records in
+    (at .ready .reads .size, at .room, omega arith, omega arith)
+
+skip-add-next-fire : (t : ℕ) → skip-lts.Need-add-next-fire (of-skip t) (skip-at t) skip.Post
+skip-add-next-fire t c =
+    let at = c .before .before .before .before .before .before .pre .1 .0 in
+    let end = at .before in
+    let block = at .ready .block in
+    let records = at .ready .usable .records in
+    omega arith
+
+skip-slice-aggregate-next-fire : (t : ℕ) → skip-lts.Need-slice-aggregate-next-fire (of-skip t) (skip-at t) skip.Post
+skip-slice-aggregate-next-fire t c = search needs
+
 skip-next-fire-requires : (t : ℕ) → skip-lts.Need-next-fire-requires (of-skip t) (skip-at t) skip.Post
-skip-next-fire-requires t c κs = c .before .before .before .before .before .pre .1
+skip-next-fire-requires t c κs =
+    let st = c .before .before .before .before .before .before .before in
+    let a = st .args in
+    let more = c .before .before .bind in
+    (grown-ready (a .plan .now) (a .block .now) (a .s) (a .slot .bytes) (a .j) (a .v) (st .pre .1 .0) (more .last .0) (more .ensures), st .pre .1 .1)
+
+skip-slice-aggregate-close : (t : ℕ) → skip-lts.Need-slice-aggregate-close (of-skip t) (skip-at t) skip.Post
+skip-slice-aggregate-close t c = search needs
 
 skip-close-requires : (t : ℕ) → skip-lts.Need-close-requires (of-skip t) (skip-at t) skip.Post
 skip-close-requires t c κs =
     let st = c .before .before .before .before .before .before .before .before .before .before .before .before .before in
     let a = st .args in
-    let ready = st .pre .1 .0 in
-    (reads-later (a .s .n) (a .j) (a .s .until) (a .t4 .bytes) (ready .within) (ready .reads), ready .usable .variables, ready .mark)
+    let ready = st .pre .1 .0 .ready in
+    let more = c .before .before .before .before .before .before .before .before .bind in
+    (grown-closes (a .plan .now) (a .block .now) (a .s) (a .slot .bytes) (a .j) (a .v) (st .pre .1 .0) (more .last .0) (more .ensures), ready .usable .variables, ready .mark)
 
 skip-same-length : (t : ℕ) → skip-lts.Need-same-length (of-skip t) (skip-at t) skip.Post
 skip-same-length t c = search needs
@@ -177,14 +184,18 @@ skip-returns : (t : ℕ) → skip-lts.Need-returns (of-skip t) (skip-at t) skip.
 skip-returns t c =
     let st = c .before .before .before .before .before .before .before .before .before .before .before .before .before .before .before .before in
     let a = st .args in
-    let next = c .before .before .before .before .before .before .before .before .before .before .next-fire in
+    let more = c .before .before .before .before .before .before .before .before .before .before .before .bind in
+    let next = c .before .before .before .before .before .before .before .before .next-fire in
     let call = c .before .before .close in
-    skip-closes (a .plan .now) (a .block .now) (a .s) (a .t4 .bytes) (a .j) (st .pre .1 .0) (next .result) (next .ensures)
-    (c .before .before .before .before .before .before .before .if1 .taken) (sinkOf (a .result .now) (a .counts)) (sinkOf (call .last .0) (call .result)) (call .ensures)
+    skip-closes (a .plan .now) (a .block .now) (a .s) (a .slot .bytes) (a .j) (a .v) (st .pre .1 .0) (more .last .0) (more .ensures) (next .result) (next .ensures)
+    (c .before .before .before .before .before .if1 .taken) (sinkOf (a .result .now) (a .counts)) (sinkOf (call .last .0) (call .result)) (call .ensures)
+
+skip-slice-aggregate-count-of : (t : ℕ) → skip-lts.Need-slice-aggregate-count-of (of-skip t) (skip-at t) skip.Post
+skip-slice-aggregate-count-of t c = search needs
 
 skip-count-of-requires : (t : ℕ) → skip-lts.Need-count-of-requires (of-skip t) (skip-at t) skip.Post
 skip-count-of-requires t c κs =
-    let size = c .before .before .before .before .before .before .before .before .before .before .before .before .pre .1 .0 .reads .size in
+    let size = c .before .before .before .before .before .before .before .bind .ensures .1 in
     omega arith
 
 skip-note-over-requires : (t : ℕ) → skip-lts.Need-note-over-requires (of-skip t) (skip-at t) skip.Post
@@ -194,22 +205,24 @@ skip-returns-2 : (t : ℕ) → skip-lts.Need-returns-2 (of-skip t) (skip-at t) s
 skip-returns-2 t c =
     let st = c .before .before .before .before .before .before .before .before .before .before .before .before .before .before .before in
     let a = st .args in
-    let next = c .before .before .before .before .before .before .before .before .before .next-fire in
+    let more = c .before .before .before .before .before .before .before .before .before .before .bind in
+    let next = c .before .before .before .before .before .before .before .next-fire in
     let count = c .before .before .count-of in
     let note = c .note-over in
-    skip-notes (a .plan .now) (a .block .now) (a .s) (a .t4 .bytes) (a .j) (st .pre .1 .0) (next .result) (next .ensures)
-    (c .before .before .before .before .before .before .if1 .left) (omega (arith, count .ensures, c .before .if2 .taken)) (a .result .now) (a .counts) (note .result) (note .ensures .0) (note .ensures .1) (note .ensures .2)
+    skip-notes (a .plan .now) (a .block .now) (a .s) (a .slot .bytes) (a .j) (a .v) (st .pre .1 .0) (more .last .0) (more .ensures) (next .result) (next .ensures)
+    (c .before .before .before .before .if1 .left) (omega (arith, count .ensures, c .before .if2 .taken)) (a .result .now) (a .counts) (note .result) (note .ensures .0) (note .ensures .1) (note .ensures .2)
 
 skip-branch-requires : (t : ℕ) → skip-lts.Need-branch-requires (of-skip t) (skip-at t) skip.Post
 skip-branch-requires t c κs =
     let st = c .before .before .before .before .before .before .before .before .before .before .before .before .before .before .before in
     let a = st .args in
-    let next = c .before .before .before .before .before .before .before .before .before .next-fire in
+    let more = c .before .before .before .before .before .before .before .before .before .before .bind in
+    let next = c .before .before .before .before .before .before .before .next-fire in
     let count = c .before .before .count-of .ensures in
     let full = c .before .if2 .left in
-    let at = next-firing (a .plan .now) (a .block .now) (a .s) (a .t4 .bytes) (a .j) (st .pre .1 .0) (next .result) (next .ensures)
-    (c .before .before .before .before .before .before .if1 .left) (λ e. full (count ∙ e)) in
-    let small = at .variables in
+    let at = next-firing (a .plan .now) (a .block .now) (a .s) (a .slot .bytes) (a .j) (a .v) (st .pre .1 .0) (more .last .0) (more .ensures) (next .result) (next .ensures)
+    (c .before .before .before .before .if1 .left) (λ e. full (count ∙ e)) in
+    let before = at .before in
     let from = next .ensures .from in
     let same = st .pre .0 in
     (omega arith, (at, st .pre .1 .1))
@@ -221,12 +234,13 @@ skip-returns-3 : (t : ℕ) → skip-lts.Need-returns-3 (of-skip t) (skip-at t) s
 skip-returns-3 t c =
     let st = c .before .before .before .before .before .before .before .before .before .before .before .before .before .before .before .before .before .before in
     let a = st .args in
-    let next = c .before .before .before .before .before .before .before .before .before .before .before .before .next-fire in
+    let more = c .before .before .before .before .before .before .before .before .before .before .before .before .before .bind in
+    let next = c .before .before .before .before .before .before .before .before .before .before .next-fire in
     let count = c .before .before .before .before .before .count-of .ensures in
     let full = c .before .before .before .before .if2 .left in
     let call = c .before .before .branch in
-    skip-branches (a .plan .now) (a .block .now) (a .s) (a .t4 .bytes) (a .j) (st .pre .1 .0) (next .result) (next .ensures)
-    (c .before .before .before .before .before .before .before .before .before .if1 .left) (λ e. full (count ∙ e)) (sinkOf (a .result .now) (a .counts)) (sinkOf (call .last .1 .1 .1 .1 .1 .1 .1 .0) (call .result)) (call .ensures)
+    skip-branches (a .plan .now) (a .block .now) (a .s) (a .slot .bytes) (a .j) (a .v) (st .pre .1 .0) (more .last .0) (more .ensures) (next .result) (next .ensures)
+    (c .before .before .before .before .before .before .before .if1 .left) (λ e. full (count ∙ e)) (sinkOf (a .result .now) (a .counts)) (sinkOf (call .last .1 .1 .1 .1 .1 .1 .1 .0) (call .result)) (call .ensures)
 
 pub +branch+skip-spec : {M : Type 1} → statement M
 +branch+skip-spec =
@@ -237,8 +251,6 @@ pub +branch+skip-spec : {M : Type 1} → statement M
     branch-μ-loop
     (branch-loop-holds t)
     (branch-lowest-bit-requires t)
-    (branch-grown-requires t)
-    (branch-add-skip t)
     (branch-skip-requires t)
     (branch-without-bit-requires t)
     (branch-loop-less t)
@@ -247,10 +259,16 @@ pub +branch+skip-spec : {M : Type 1} → statement M
     (branch-returns t))
     (λ t.
     skip-lts.spec (of-skip t) (skip-at t) skip.Post
+    (skip-slice-aggregate-bind t)
+    (skip-bind-requires t)
+    (skip-add-next-fire t)
+    (skip-slice-aggregate-next-fire t)
     (skip-next-fire-requires t)
+    (skip-slice-aggregate-close t)
     (skip-close-requires t)
     (skip-same-length t)
     (skip-returns t)
+    (skip-slice-aggregate-count-of t)
     (skip-count-of-requires t)
     (skip-note-over-requires t)
     (skip-returns-2 t)
