@@ -44,13 +44,13 @@ const BOTH_SIDES: u8 = 5;
 // Where a condition's 64 bits tell which orders fail its operator.
 const FIRST_ORDER: usize = 43;
 
-// What stands in the place of no condition: one that asks nothing else than an equal order.
+// What stands where there is no condition: the operator =, which less and greater fail.
 const NO_CONDITION: u64 = 43980465111040;
 
 // How many event types one after the other share a place of the plan: all of them are of one class.
 const TYPES_TOGETHER: usize = 16;
 
-// Where the masks stand: before, after and marks for each variable, then joins; then those by class, and the others.
+// Where the masks stand: before, after and marks for each variable, then joins; those by class; the others by kind.
 const FIRST_MASK: usize = 32;
 
 const FIRST_AFTER: usize = 44;
