@@ -27,7 +27,7 @@ use Rattle.automaton.proofs.All.{implies-of, implies-true, all-of, all-same}
 use Rattle.rule.specs.Rule.{Binding, Reading}
 use Rattle.slots.specs.Slots.{bindingsIn, countIn, stateIn}
 use Rattle.firing.specs.Plan.{conditionIn, joinsIn}
-use Rattle.firing.specs.Firing.{pairHolds, otherOf, sideOf, testedBy, pairMeets, joinHolds, joinsBy, Seated}
+use Rattle.firing.specs.Firing.{pairHolds, otherOf, sideOf, pairMeets, joinHolds, joinsBy, Seated}
 use Rattle.firing.proofs.Slots.{bindingAt, binding-among}
 
 -- ## Sides
@@ -44,17 +44,6 @@ module _ (v : ℕ) (k : Condition) where
 
   pub other-second : eqb (k .variable) v ≡ false → otherOf v k ≡ k .variable
   other-second e = rw (e, otherOf)
-
-  module _ (state count : ℕ) where
-    pub tested-bound : bit state (otherOf v k) ≡ true → testedBy state count v k ≡ count
-    tested-bound e = rw (e, testedBy)
-
-    pub tested-free : bit state (otherOf v k) ≡ false → testedBy state count v k ≡ 0
-    tested-free e = rw (e, testedBy)
-
-    pub tested-le : testedBy state count v k ≤ count
-    tested-le =
-        by-test (bit state (otherOf v k)) (λ e. omega (arith, tested-bound e)) (λ e. omega (arith, tested-free e))
 
 -- ## One combination
 
@@ -108,8 +97,8 @@ module _ (v : ℕ) (read k : Condition) (e : read ≡ k) where
   pub value-read : (x : ℕ) (r : Record) → x ≡ raise (value (sideOf v read) r) → x ≡ raise (value (sideOf v k) r)
   value-read x r f = f ∙ ap (λ (q : Condition). raise (value (sideOf v q) r)) e
 
-  pub end-read : (state count end s n : ℕ) → state ≡ s → count ≡ n → end ≡ testedBy state count v read → end ≡ testedBy s n v k
-  end-read state count end s n f g h = h ∙ ap (testedBy state count v) e ∙ ap₂ (λ (a b : ℕ). testedBy a b v k) f g
+  pub bound-read : (state s : ℕ) (found t : Bool) → state ≡ s → found ≡ bit state (otherOf v read) → found ≡ t → bit s (otherOf v k) ≡ t
+  bound-read state s found t f g h = ap₂ (λ (a : ℕ) (q : Condition). bit a (otherOf v q)) (sym f) (sym e) ∙ sym g ∙ h
 
   pub meets-read : (bytes : List ℕ) (x : ℕ) (b : Binding) (found t : Bool) → found ≡ pairMeets bytes x v read b → found ≡ t → pairMeets bytes x v k b ≡ t
   meets-read bytes x b found t f g = ap (λ (q : Condition). pairMeets bytes x v q b) (sym e) ∙ sym f ∙ g
@@ -125,24 +114,25 @@ module _ (bytes slot : List ℕ) (v x : ℕ) (k : Condition) where
   unfolding bindingsIn all
   tried-more j e f = rw add-one (ap₂ (λ (s t : Bool). s && t) f e)
 
-  module _ (i : ℕ) (form : k .form ≡ 0 → ⊥) (new : x ≡ raise (value (sideOf v k) (recordAt bytes i))) (seated : Seated bytes slot) where
-    -- all bindings that bind the other variable have been tried
-    pub tried-all : (end : ℕ) → end ≡ testedBy (stateIn slot) (countIn slot) v k → all (pairMeets bytes x v k) (bindingsIn slot end) ≡ true → all (pairHolds bytes i v k) (bindingsIn slot (countIn slot)) ≡ true
-    tried-all end e t =
-        by-test (bit (stateIn slot) (otherOf v k))
-        (λ f.
-        let whole = e ∙ tested-bound v k (stateIn slot) (countIn slot) f in
-        all-same (pairHolds bytes i v k) (pairMeets bytes x v k) (bindingsIn slot (countIn slot)) (λ b m. sym (pair-same bytes v k b i x form new))
-        ∙ ap (λ (n : ℕ). all (pairMeets bytes x v k) (bindingsIn slot n)) (sym whole)
-        ∙ t)
-        (λ f.
-        all-of (pairHolds bytes i v k) (bindingsIn slot (countIn slot)) (λ b m.
-        pair-free bytes v k b i (λ q. clash (seated .bound b m) (ap (bit (stateIn slot)) q ∙ f))))
+  module _ (i : ℕ) (form : k .form ≡ 0 → ⊥) (new : x ≡ raise (value (sideOf v k) (recordAt bytes i))) where
+    -- all bindings have been tried
+    pub tried-all : all (pairMeets bytes x v k) (bindingsIn slot (countIn slot)) ≡ true → all (pairHolds bytes i v k) (bindingsIn slot (countIn slot)) ≡ true
+    tried-all t =
+        all-same (pairHolds bytes i v k) (pairMeets bytes x v k) (bindingsIn slot (countIn slot)) (λ b m. sym (pair-same bytes v k b i x form new)) ∙ t
 
     -- a combination that fails
     pub tried-fails : (j : ℕ) → j < countIn slot → pairMeets bytes x v k (bindingAt slot j) ≡ false → all (pairHolds bytes i v k) (bindingsIn slot (countIn slot)) ≡ true → ⊥
     tried-fails j l f t =
         clash (pair-same bytes v k (bindingAt slot j) i x form new ∙ all-mem (pairHolds bytes i v k) (binding-among slot (countIn slot) j l) t) f
+
+-- the other variable is not bound: there is nothing to try
+pub tried-free :
+    (bytes slot : List ℕ) (v i : ℕ) (k : Condition) → Seated bytes slot
+    → bit (stateIn slot) (otherOf v k) ≡ false
+    → all (pairHolds bytes i v k) (bindingsIn slot (countIn slot)) ≡ true
+tried-free bytes slot v i k seated f =
+    all-of (pairHolds bytes i v k) (bindingsIn slot (countIn slot)) (λ b m.
+    pair-free bytes v k b i (λ q. clash (seated .bound b m) (ap (bit (stateIn slot)) q ∙ f)))
 
 -- ## All conditions
 

@@ -107,10 +107,6 @@ otherOf v k = elim (eqb (k .variable) v) [ true ↦ k .variable2 | false ↦ k .
 abbrev pub sideOf : ℕ → Condition → ℕ
 sideOf v k = elim (eqb (k .variable) v) [ true ↦ k .attribute | false ↦ k .attribute2 ]
 
--- how many of the bindings condition k is tested with: none where the other variable is not bound
-abbrev pub testedBy : ℕ → ℕ → ℕ → Condition → ℕ
-testedBy state count v k = elim (bit state (otherOf v k)) [ true ↦ count | false ↦ 0 ]
-
 -- condition k holds with binding b where x is the new event's value, raised
 unfoldable pub pairMeets : List ℕ → ℕ → ℕ → Condition → Binding → Bool
 pairMeets bytes x v k b =

@@ -7,13 +7,14 @@ ghost use lib.Dec.{eqb};
 ghost use lib.IntN.{pos};
 ghost use lib.ListN.{length};
 ghost use Rattle.numbers.specs.Numbers.{number, oneIf};
+ghost use Rattle.numbers.specs.Bits.{bit};
 ghost use Rattle.records.specs.Records.{recordBytes, recordAt};
 ghost use Rattle.patterns.specs.Patterns.{mostVariables, mostConditions, lastOperator, conditionOf};
 ghost use Rattle.patterns.specs.Checked.{InOrder, conditionAt};
 ghost use Rattle.patterns.specs.Comparison.{value, orderOf, meets, raise};
 ghost use Rattle.slots.specs.Slots.{bindingOf, bindingsIn, countIn, heldIn};
 ghost use Rattle.firing.specs.Plan.{planRoom, joins, standing, variableMask, joinMask, onClass, failingOf, bothSides, otherOwn, sampleOf, typePlaces, classMask, otherMask, Tells, IsWord, Placed, IsPlan, Sound, Classed};
-ghost use Rattle.firing.specs.Firing.{settled, settledOnClass, settledOrder, valuesOf, settledBy, Settling, canBy, leavesBy, laterBy, sideOf, testedBy, pairMeets, joinsBy, agreesBy, Fit};
+ghost use Rattle.firing.specs.Firing.{settled, settledOnClass, settledOrder, valuesOf, settledBy, Settling, canBy, leavesBy, laterBy, otherOf, sideOf, pairMeets, joinsBy, agreesBy, Fit};
 use patterns::Condition;
 use patterns::Pattern;
 use records::Record;
@@ -491,21 +492,15 @@ fn new_value(k: Condition, v: usize, block: &[u8], i: usize) -> u64
     patterns::raised_value(k.attribute2, records::unpack(block, i))
 }
 
-// How many bindings a condition that joins v is tested with: none where the other variable is not bound.
-fn tested(k: Condition, v: usize, state: u64, count: usize) -> usize
+// Whether the variable that a condition names beside v is bound.
+fn is_bound(k: Condition, v: usize, state: u64) -> bool
     requires { ⌜ (k .variable < 16) × (k .variable2 < 16) ⌝ }
-    ensures { λ r. ⌜ r ≡ testedBy state count v k ⌝ }
+    ensures { λ r. ⌜ r ≡ bit state (otherOf v k) ⌝ }
 {
     if k.variable as usize == v {
-        if numbers::bit_of(state, k.variable2 as usize) {
-            return count;
-        }
-        return 0;
+        return numbers::bit_of(state, k.variable2 as usize);
     }
-    if numbers::bit_of(state, k.variable as usize) {
-        return count;
-    }
-    0
+    numbers::bit_of(state, k.variable as usize)
 }
 
 // Whether a condition that joins v, with its 64 bits, holds with binding j, x being the new event's value, raised.
@@ -554,17 +549,19 @@ pub fn joins_hold(plan: &[u64; 102], block: &[u8], i: usize, v: usize, slot: &[u
         let at = numbers::lowest_bit(rest);
         let word = plan[at];
         let k = patterns::unpack_condition(word);
+        rest = numbers::without_lowest(rest);
+        if !is_bound(k, v, state) {
+            continue;
+        }
         let x = new_value(k, v, block, i);
-        let end = tested(k, v, state, count);
         let mut j: usize = 0;
-        while j < end {
+        while j < count {
             if !pair_holds(block, slot, j, word, k, v, x) {
                 hold = false;
                 break 'conditions;
             }
             j += 1;
         }
-        rest = rest - numbers::weight(at);
     }
     hold
 }

@@ -16,16 +16,16 @@ use Rattle.firing.specs.Plan.{conditionIn}
 use Rattle.firing.specs.Firing.{pairMeets}
 use Rattle.firing.proofs.Plans.{condition-variable, condition-variable2}
 use Rattle.firing.proofs.Slots.{bindingAt, binding-among}
-use Rattle.firing.proofs.Joins.{Left, tested-le, value-read, end-read, meets-read, tried-none, tried-more, tried-all, tried-fails, weight-le, left-all, left-below, left-less, joins-done, joins-fail, joins-none}
+use Rattle.firing.proofs.Joins.{Left, value-read, bound-read, meets-read, tried-none, tried-more, tried-all, tried-fails, tried-free, weight-le, left-all, left-below, left-less, joins-done, joins-fail, joins-none}
 use Rattle.firing.proofs.joins_hold.Statement.{statement}
 use Rattle.firing.proofs.joins_hold.Tie as tie
 
 abbrev Inv-loop : tie.InvT-loop
-Inv-loop plan block i v slot rest state count hold₀ at word k x end j₀ hold j =
-    (hold ≡ true) × (j ≤ end) × (all (pairMeets block x v (conditionIn plan at)) (bindingsIn slot j) ≡ true)
+Inv-loop plan block i v slot rest state count hold₀ at word k x j₀ hold j =
+    (hold ≡ true) × (j ≤ count) × (all (pairMeets block x v (conditionIn plan at)) (bindingsIn slot j) ≡ true)
 
 abbrev μ-loop : tie.MeasureT-loop
-μ-loop plan block i v slot rest state count hold₀ at word k x end j₀ hold j = end - j
+μ-loop plan block i v slot rest state count hold₀ at word k x j₀ hold j = count - j
 
 abbrev Inv-conditions : tie.InvT-conditions
 Inv-conditions plan block i v slot rest₀ state count hold₀ rest hold =
@@ -67,8 +67,7 @@ lowest-bit-requires c κs = omega arith
 mul-word : tie.Need-mul-word Inv-loop μ-loop Inv-conditions μ-conditions
 mul-word c = let s = c .lowest-bit .ensures .small in omega arith
 
-element-copy-out-word :
-    tie.Need-element-copy-out-word Inv-loop μ-loop Inv-conditions μ-conditions
+element-copy-out-word : tie.Need-element-copy-out-word Inv-loop μ-loop Inv-conditions μ-conditions
 element-copy-out-word c =
     let s = c .lowest-bit .ensures .small in
     let size = c .before .before .before .before .before .before .before .before .before .pre .0 .sound .size in
@@ -78,42 +77,86 @@ unpack-condition-requires :
     tie.Need-unpack-condition-requires Inv-loop μ-loop Inv-conditions μ-conditions
 unpack-condition-requires c κs = search needs
 
-new-value-requires : tie.Need-new-value-requires Inv-loop μ-loop Inv-conditions μ-conditions
-new-value-requires c κs = c .before .before .before .before .before .before .before .before .before .before .before .pre .0 .here
+without-lowest-requires :
+    tie.Need-without-lowest-requires Inv-loop μ-loop Inv-conditions μ-conditions
+without-lowest-requires c κs = omega arith
 
-tested-requires : tie.Need-tested-requires Inv-loop μ-loop Inv-conditions μ-conditions
-tested-requires c κs =
+is-bound-requires : tie.Need-is-bound-requires Inv-loop μ-loop Inv-conditions μ-conditions
+is-bound-requires c κs =
     let word = getD (c .before .before .before .before .before .before .before .before .before .before .before .before .args .plan .now) (c .before .before .before .lowest-bit .result) 0 in
-    let first = ap (λ (k : Condition). k .variable) (c .before .unpack-condition .ensures) in
-    let second = ap (λ (k : Condition). k .variable2) (c .before .unpack-condition .ensures) in
-    (omega (arith, condition-variable word), omega (arith, condition-variable2 word))
+    let read = c .before .unpack-condition .ensures in
+    (omega (arith, ap (λ (k : Condition). k .variable) read, condition-variable word), omega (arith, ap (λ (k : Condition). k .variable2) read, condition-variable2 word))
+
+conditions-less : tie.Need-conditions-less Inv-loop μ-loop Inv-conditions μ-conditions
+conditions-less c =
+    let low = c .before .before .before .before .before .lowest-bit in
+    let l = c .before .before .before .before .before .before .before .conditions in
+    omega (arith, c .before .before .without-lowest .ensures (low .result) (low .ensures), weight-le (l .rest) (low .result) (low .ensures .here), pow-pos (low .result))
+
+conditions-again : tie.Need-conditions-again Inv-loop μ-loop Inv-conditions μ-conditions
+conditions-again c =
+    let st = c .before .before .before .before .before .before .before .before .before .before .before .before .before .before in
+    let a = st .args in
+    let fit = st .pre .0 in
+    let l = c .before .before .before .before .before .before .before .conditions in
+    let low = c .before .before .before .before .before .lowest-bit in
+    let k = conditionIn (a .plan .now) (low .result) in
+    let read = c .before .before .before .unpack-condition in
+    let bound = c .before .is-bound in
+    let free = bound-read (a .v) (read .result) k (read .ensures) (c .before .before .before .before .before .before .before .before .before .state-of .result) (stateIn (a .slot .now)) (bound .result) false (c .before .before .before .before .before .before .before .before .before .state-of .ensures) (bound .ensures) (not-true (bound .result) (c .if2 .taken)) in
+    let every = tried-free (a .block .now) (a .slot .now) (a .v) (a .i) k (fit .seated) free in
+    let r = bindingsIn (a .slot .now) (countIn (a .slot .now)) in
+    (l .inv .0, subst (Left (a .plan .now) (a .block .now) (a .i) (a .v) r) (sym (c .before .before .without-lowest .ensures (low .result) (low .ensures))) (left-less (a .plan .now) (a .block .now) (a .i) (a .v) r (l .rest) (l .inv .1) (low .result) (low .ensures .here) every))
+
+new-value-requires : tie.Need-new-value-requires Inv-loop μ-loop Inv-conditions μ-conditions
+new-value-requires c κs = c .before .before .before .before .before .before .before .before .before .before .before .before .before .before .pre .0 .here
 
 loop-holds : tie.Need-loop-holds Inv-loop μ-loop Inv-conditions μ-conditions
 loop-holds c =
-    let a = c .before .before .before .before .before .before .before .before .before .before .before .before .before .args in
-    let fit = c .before .before .before .before .before .before .before .before .before .before .before .before .before .pre .0 in
-    let l = c .before .before .before .before .before .before .conditions in
-    let at = c .before .before .before .before .lowest-bit .result in
+    let st = c .before .before .before .before .before .before .before .before .before .before .before .before .before .before .before in
+    let a = st .args in
+    let l = c .before .before .before .before .before .before .before .before .conditions in
+    (l .inv .0, omega arith, tried-none (a .block .now) (a .slot .now) (a .v) (c .new-value .result) (conditionIn (a .plan .now) (c .before .before .before .before .before .before .lowest-bit .result)))
+
+conditions-less-2 : tie.Need-conditions-less-2 Inv-loop μ-loop Inv-conditions μ-conditions
+conditions-less-2 c =
+    let low = c .before .before .before .before .before .before .before .before .lowest-bit in
+    let l = c .before .before .before .before .before .before .before .before .before .before .conditions in
+    omega (arith, c .before .before .before .before .before .without-lowest .ensures (low .result) (low .ensures), weight-le (l .rest) (low .result) (low .ensures .here), pow-pos (low .result))
+
+conditions-again-2 : tie.Need-conditions-again-2 Inv-loop μ-loop Inv-conditions μ-conditions
+conditions-again-2 c =
+    let st = c .before .before .before .before .before .before .before .before .before .before .before .before .before .before .before .before .before in
+    let a = st .args in
+    let fit = st .pre .0 in
+    let l = c .before .before .before .before .before .before .before .before .before .before .conditions in
+    let low = c .before .before .before .before .before .before .before .before .lowest-bit in
+    let at = low .result in
     let k = conditionIn (a .plan .now) at in
-    let bound = c .before .before .before .before .lowest-bit .ensures .here in
-    (l .inv .0, search needs, tried-none (a .block .now) (a .slot .now) (a .v) (c .before .new-value .result) k)
+    let read = c .before .before .before .before .before .before .unpack-condition in
+    let x = c .before .before .new-value in
+    let new = value-read (a .v) (read .result) k (read .ensures) (x .result) (recordAt (a .block .now) (a .i)) (x .ensures) in
+    let m = c .before .loop in
+    let whole : m .j ≡ countIn (a .slot .now) = omega (arith, c .before .before .before .before .before .before .before .before .before .before .before .count-of .ensures) in
+    let tried = subst (λ (j : ℕ). all (pairMeets (a .block .now) (x .result) (a .v) k) (bindingsIn (a .slot .now) j) ≡ true) whole (m .inv .2) in
+    let every = tried-all (a .block .now) (a .slot .now) (a .v) (x .result) k (a .i) (fit .sound .form (a .v) at (st .pre .1) (l .inv .1 .named at (low .ensures .here))) new tried in
+    let r = bindingsIn (a .slot .now) (countIn (a .slot .now)) in
+    (m .inv .0, subst (Left (a .plan .now) (a .block .now) (a .i) (a .v) r) (sym (c .before .before .before .before .before .without-lowest .ensures at (low .ensures))) (left-less (a .plan .now) (a .block .now) (a .i) (a .v) r (l .rest) (l .inv .1) at (low .ensures .here) every))
 
 pair-holds-requires : tie.Need-pair-holds-requires Inv-loop μ-loop Inv-conditions μ-conditions
 pair-holds-requires c κs =
-    let a = c .before .before .before .before .before .before .before .before .before .before .before .before .before .before .before .args in
-    let fit = c .before .before .before .before .before .before .before .before .before .before .before .before .before .before .before .pre .0 in
-    let l = c .before .before .before .before .before .before .before .before .conditions in
-    let at = c .before .before .before .before .before .before .lowest-bit .result in
-    let k = conditionIn (a .plan .now) at in
-    let bound = c .before .before .before .before .before .before .lowest-bit .ensures .here in
+    let st = c .before .before .before .before .before .before .before .before .before .before .before .before .before .before .before .before .before in
+    let a = st .args in
+    let fit = st .pre .0 in
+    let l = c .before .before .before .before .before .before .before .before .before .before .conditions in
+    let low = c .before .before .before .before .before .before .before .before .lowest-bit in
     let m = c .before .loop in
     let size = fit .seated .size in
     let few = fit .seated .few in
-    let tells = fit .sound .tells at (left-below (a .plan .now) (a .block .now) (a .i) (a .v) (bindingsIn (a .slot .now) (countIn (a .slot .now))) (l .rest) (l .inv .1) at bound) in
-    let most = tested-le (a .v) (c .before .before .before .before .unpack-condition .result) (c .before .before .before .before .before .before .before .before .before .before .state-of .result) (c .before .before .before .before .before .before .before .before .before .count-of .result) in
-    let some : m .j < countIn (a .slot .now) = omega arith in
+    let tells = fit .sound .tells (low .result) (left-below (a .plan .now) (a .block .now) (a .i) (a .v) (bindingsIn (a .slot .now) (countIn (a .slot .now))) (l .rest) (l .inv .1) (low .result) (low .ensures .here)) in
+    let some : m .j < countIn (a .slot .now) = omega (arith, c .before .before .before .before .before .before .before .before .before .before .before .count-of .ensures) in
     let inside = fit .seated .inBlock (bindingAt (a .slot .now) (m .j)) (binding-among (a .slot .now) (countIn (a .slot .now)) (m .j) some) in
-    (tells, c .before .before .before .before .unpack-condition .ensures, omega arith, inside)
+    (tells, c .before .before .before .before .before .before .unpack-condition .ensures, omega arith, inside)
 
 add-j : tie.Need-add-j Inv-loop μ-loop Inv-conditions μ-conditions
 add-j c = omega arith
@@ -123,46 +166,14 @@ loop-less c = omega arith
 
 loop-again : tie.Need-loop-again Inv-loop μ-loop Inv-conditions μ-conditions
 loop-again c =
-    let a = c .before .before .before .before .before .before .before .before .before .before .before .before .before .before .before .before .before .args in
-    let fit = c .before .before .before .before .before .before .before .before .before .before .before .before .before .before .before .before .before .pre .0 in
-    let l = c .before .before .before .before .before .before .before .before .before .before .conditions in
-    let at = c .before .before .before .before .before .before .before .before .lowest-bit .result in
-    let k = conditionIn (a .plan .now) at in
-    let bound = c .before .before .before .before .before .before .before .before .lowest-bit .ensures .here in
+    let a = c .before .before .before .before .before .before .before .before .before .before .before .before .before .before .before .before .before .before .before .args in
+    let read = c .before .before .before .before .before .before .before .before .unpack-condition in
+    let k = conditionIn (a .plan .now) (c .before .before .before .before .before .before .before .before .before .before .lowest-bit .result) in
     let m = c .before .before .before .loop in
-    let x = c .before .before .before .before .before .new-value .result in
-    let one = meets-read (a .v) (c .before .before .before .before .before .before .unpack-condition .result) k (c .before .before .before .before .before .before .unpack-condition .ensures) (a .block .now) x (bindingAt (a .slot .now) (m .j)) (c .before .pair-holds .result) true (c .before .pair-holds .ensures) (not-false (c .before .pair-holds .result) (c .if2 .left)) in
-    (m .inv .0, omega arith, tried-more (a .block .now) (a .slot .now) (a .v) x k (m .j) (m .inv .2) one)
-
-weight-requires : tie.Need-weight-requires Inv-loop μ-loop Inv-conditions μ-conditions
-weight-requires c κs = let s = c .before .before .before .before .before .before .lowest-bit .ensures .small in omega arith
-
-sub-rest : tie.Need-sub-rest Inv-loop μ-loop Inv-conditions μ-conditions
-sub-rest c =
-    let w = weight-le (c .before .before .before .before .before .before .before .before .before .conditions .rest) (c .before .before .before .before .before .before .before .lowest-bit .result) (c .before .before .before .before .before .before .before .lowest-bit .ensures .here) in
-    omega arith
-
-conditions-less : tie.Need-conditions-less Inv-loop μ-loop Inv-conditions μ-conditions
-conditions-less c =
-    let w = weight-le (c .before .before .before .before .before .before .before .before .before .conditions .rest) (c .before .before .before .before .before .before .before .lowest-bit .result) (c .before .before .before .before .before .before .before .lowest-bit .ensures .here) in
-    omega (arith, pow-pos (c .before .before .before .before .before .before .before .lowest-bit .result))
-
-conditions-again : tie.Need-conditions-again Inv-loop μ-loop Inv-conditions μ-conditions
-conditions-again c =
-    let a = c .before .before .before .before .before .before .before .before .before .before .before .before .before .before .before .before .args in
-    let fit = c .before .before .before .before .before .before .before .before .before .before .before .before .before .before .before .before .pre .0 in
-    let l = c .before .before .before .before .before .before .before .before .before .conditions in
-    let at = c .before .before .before .before .before .before .before .lowest-bit .result in
-    let k = conditionIn (a .plan .now) at in
-    let bound = c .before .before .before .before .before .before .before .lowest-bit .ensures .here in
     let x = c .before .before .before .before .new-value .result in
-    let new = value-read (a .v) (c .before .before .before .before .before .unpack-condition .result) k (c .before .before .before .before .before .unpack-condition .ensures) x (recordAt (a .block .now) (a .i)) (c .before .before .before .before .new-value .ensures) in
-    let m = c .before .before .loop in
-    let end = end-read (a .v) (c .before .before .before .before .before .unpack-condition .result) k (c .before .before .before .before .before .unpack-condition .ensures) (c .before .before .before .before .before .before .before .before .before .before .before .state-of .result) (c .before .before .before .before .before .before .before .before .before .before .count-of .result) (c .before .before .before .tested .result) (stateIn (a .slot .now)) (countIn (a .slot .now)) (c .before .before .before .before .before .before .before .before .before .before .before .state-of .ensures) (c .before .before .before .before .before .before .before .before .before .before .count-of .ensures) (c .before .before .before .tested .ensures) in
-    let whole : m .j ≡ c .before .before .before .tested .result = omega arith in
-    let every = tried-all (a .block .now) (a .slot .now) (a .v) x k (a .i) (fit .sound .form (a .v) at (c .before .before .before .before .before .before .before .before .before .before .before .before .before .before .before .before .pre .1) (l .inv .1 .named at bound)) new (fit .seated) (m .j) (whole ∙ end) (m .inv .2) in
-    let r = bindingsIn (a .slot .now) (countIn (a .slot .now)) in
-    (m .inv .0, subst (λ (w : ℕ). Left (a .plan .now) (a .block .now) (a .i) (a .v) r (l .rest - w)) (sym (c .weight .ensures)) (left-less (a .plan .now) (a .block .now) (a .i) (a .v) r (l .rest) (l .inv .1) at bound every))
+    let held = c .before .pair-holds in
+    let one = meets-read (a .v) (read .result) k (read .ensures) (a .block .now) x (bindingAt (a .slot .now) (m .j)) (held .result) true (held .ensures) (not-false (held .result) (c .if3 .left)) in
+    (m .inv .0, omega arith, tried-more (a .block .now) (a .slot .now) (a .v) x k (m .j) (m .inv .2) one)
 
 returns-2 : tie.Need-returns-2 Inv-loop μ-loop Inv-conditions μ-conditions
 returns-2 c =
@@ -173,20 +184,22 @@ returns-2 c =
 
 returns-3 : tie.Need-returns-3 Inv-loop μ-loop Inv-conditions μ-conditions
 returns-3 c =
-    let a = c .before .before .before .before .before .before .before .before .before .before .before .before .before .before .before .before .before .args in
-    let fit = c .before .before .before .before .before .before .before .before .before .before .before .before .before .before .before .before .before .pre .0 in
-    let l = c .before .before .before .before .before .before .before .before .before .before .conditions in
-    let at = c .before .before .before .before .before .before .before .before .lowest-bit .result in
+    let st = c .before .before .before .before .before .before .before .before .before .before .before .before .before .before .before .before .before .before .before in
+    let a = st .args in
+    let fit = st .pre .0 in
+    let l = c .before .before .before .before .before .before .before .before .before .before .before .before .conditions in
+    let low = c .before .before .before .before .before .before .before .before .before .before .lowest-bit in
+    let at = low .result in
     let k = conditionIn (a .plan .now) at in
-    let bound = c .before .before .before .before .before .before .before .before .lowest-bit .ensures .here in
-    let x = c .before .before .before .before .before .new-value .result in
-    let new = value-read (a .v) (c .before .before .before .before .before .before .unpack-condition .result) k (c .before .before .before .before .before .before .unpack-condition .ensures) x (recordAt (a .block .now) (a .i)) (c .before .before .before .before .before .new-value .ensures) in
+    let read = c .before .before .before .before .before .before .before .before .unpack-condition in
+    let x = c .before .before .before .before .new-value in
+    let new = value-read (a .v) (read .result) k (read .ensures) (x .result) (recordAt (a .block .now) (a .i)) (x .ensures) in
     let m = c .before .before .before .loop in
-    let most = tested-le (a .v) (c .before .before .before .before .before .before .unpack-condition .result) (c .before .before .before .before .before .before .before .before .before .before .before .before .state-of .result) (c .before .before .before .before .before .before .before .before .before .before .before .count-of .result) in
-    let some : m .j < countIn (a .slot .now) = omega arith in
-    let one = meets-read (a .v) (c .before .before .before .before .before .before .unpack-condition .result) k (c .before .before .before .before .before .before .unpack-condition .ensures) (a .block .now) x (bindingAt (a .slot .now) (m .j)) (c .before .pair-holds .result) false (c .before .pair-holds .ensures) (not-true (c .before .pair-holds .result) (c .if2 .taken)) in
-    let failed = tried-fails (a .block .now) (a .slot .now) (a .v) x k (a .i) (fit .sound .form (a .v) at (c .before .before .before .before .before .before .before .before .before .before .before .before .before .before .before .before .before .pre .1) (l .inv .1 .named at bound)) new (fit .seated) (m .j) some one in
-    sym (joins-fail (a .plan .now) (a .block .now) (a .i) (a .v) (bindingsIn (a .slot .now) (countIn (a .slot .now))) (l .rest) (l .inv .1) at bound failed)
+    let held = c .before .pair-holds in
+    let some : m .j < countIn (a .slot .now) = omega (arith, c .before .before .before .before .before .before .before .before .before .before .before .before .before .count-of .ensures) in
+    let one = meets-read (a .v) (read .result) k (read .ensures) (a .block .now) (x .result) (bindingAt (a .slot .now) (m .j)) (held .result) false (held .ensures) (not-true (held .result) (c .if3 .taken)) in
+    let failed = tried-fails (a .block .now) (a .slot .now) (a .v) (x .result) k (a .i) (fit .sound .form (a .v) at (st .pre .1) (l .inv .1 .named at (low .ensures .here))) new (m .j) some one in
+    sym (joins-fail (a .plan .now) (a .block .now) (a .i) (a .v) (bindingsIn (a .slot .now) (countIn (a .slot .now))) (l .rest) (l .inv .1) at (low .ensures .here) failed)
 
 pub joins-hold-spec : {M : Type 1} → statement M
 joins-hold-spec =
@@ -207,16 +220,17 @@ joins-hold-spec =
     mul-word
     element-copy-out-word
     unpack-condition-requires
+    without-lowest-requires
+    is-bound-requires
+    conditions-less
+    conditions-again
     new-value-requires
-    tested-requires
     loop-holds
+    conditions-less-2
+    conditions-again-2
     pair-holds-requires
     add-j
     loop-less
     loop-again
-    weight-requires
-    sub-rest
-    conditions-less
-    conditions-again
     returns-2
     returns-3)
