@@ -172,10 +172,10 @@ fn firing_of(block: &[u8], plan: &[u64; 102], i: usize, asked: u64, slot: &[u8])
     while rest != 0 {
         let v = numbers::lowest_bit(rest);
         rest = numbers::without_bit(rest, v);
-        if !firing::is_later(plan, block, i, v, slot) {
+        if !firing::joins_hold(plan, block, i, v, slot) {
             continue;
         }
-        firing = firing + numbers::weight_if(firing::joins_hold(plan, block, i, v, slot), v);
+        firing = firing + numbers::weight_if(firing::is_later(plan, block, i, v, slot), v);
     }
     firing
 }

@@ -3,13 +3,13 @@
 use native.Mathlib.Nat.{zero-mul}
 use native.Mathlib.Omega.{arith}
 use mathlib.Core.Path.{_≡_, sym, ap, _∙_}
-use mathlib.Core.Bool.{Bool, _&&_}
+use mathlib.Core.Bool.{Bool, _&&_, and-true, and-false}
 use Prim.Native.Nat.{ℕ, _+_, _*_, _^_, _<_}
 use borrow.Author.Tests.{not-true, not-false}
 use Rattle.numbers.specs.Numbers.{oneIf}
 use Rattle.patterns.specs.Patterns.{mostVariables}
 use Rattle.slots.specs.Slots.{heldIn}
-use Rattle.firing.specs.Firing.{joinsBy}
+use Rattle.firing.specs.Firing.{laterBy}
 use Rattle.starts.specs.Skips.{agreeingBy}
 use Rattle.starts.proofs.Turns.{low-bits, rest-less}
 use Rattle.starts.proofs.Masks.{agreeing-none, agreeing-bound, agreeing-lowest}
@@ -32,8 +32,8 @@ lowest-bit-requires c κs = search needs
 without-bit-requires : tie.Need-without-bit-requires Inv-loop μ-loop
 without-bit-requires c κs = c .lowest-bit .ensures .small
 
-is-later-requires : tie.Need-is-later-requires Inv-loop μ-loop
-is-later-requires c κs =
+joins-hold-requires : tie.Need-joins-hold-requires Inv-loop μ-loop
+joins-hold-requires c κs =
     let h = c .before .before .before .loop in
     let low = c .before .lowest-bit in
     (c .before .before .before .before .before .before .pre .1, low-bits (h .rest) mostVariables (low .result) (h .inv .0) (low .ensures .here))
@@ -47,6 +47,7 @@ loop-less c =
     omega arith
 
 loop-again : tie.Need-loop-again Inv-loop μ-loop
+unfolding heldIn
 loop-again c =
     let a = c .before .before .before .before .before .before .before .before .args in
     let h = c .before .before .before .before .before .loop in
@@ -54,14 +55,14 @@ loop-again c =
     let v = low .result in
     let parts = agreeing-lowest (a .plan .now) (a .block .now) (a .i) (heldIn (a .slot .now)) (h .rest) v (h .inv .0) (low .ensures) in
     let whole = h .inv .1 in
-    let weight = ap (λ (t : Bool). oneIf (t && joinsBy (a .plan .now) (a .block .now) (a .i) v (heldIn (a .slot .now) .bindings)) * 2 ^ v) (sym (c .before .is-later .ensures) ∙ not-true (c .before .is-later .result) (c .if1 .taken)) ∙ zero-mul (2 ^ v) in
+    let weight = ap (λ (t : Bool). oneIf (laterBy (a .plan .now) (a .block .now) (a .i) v (heldIn (a .slot .now)) && t) * 2 ^ v) (sym (c .before .joins-hold .ensures) ∙ not-true (c .before .joins-hold .result) (c .if1 .taken)) ∙ ap (λ (t : Bool). oneIf t * 2 ^ v) (and-false (laterBy (a .plan .now) (a .block .now) (a .i) v (heldIn (a .slot .now)))) ∙ zero-mul (2 ^ v) in
     let is = c .before .before .without-bit .ensures in
     let small = h .inv .0 in
     let left = ap (λ (x : ℕ). agreeingBy (a .plan .now) (a .block .now) (a .i) x (heldIn (a .slot .now))) is in
     (omega arith, omega arith)
 
-joins-hold-requires : tie.Need-joins-hold-requires Inv-loop μ-loop
-joins-hold-requires c κs =
+is-later-requires : tie.Need-is-later-requires Inv-loop μ-loop
+is-later-requires c κs =
     let h = c .before .before .before .before .before .loop in
     let low = c .before .before .before .lowest-bit in
     (c .before .before .before .before .before .before .before .before .pre .1, low-bits (h .rest) mostVariables (low .result) (h .inv .0) (low .ensures .here))
@@ -79,7 +80,7 @@ add-firing c =
     let parts = agreeing-lowest (a .plan .now) (a .block .now) (a .i) (heldIn (a .slot .now)) (h .rest) v (h .inv .0) (low .ensures) in
     let bound = agreeing-bound (a .plan .now) (a .block .now) (a .i) (heldIn (a .slot .now)) (a .asked) in
     let whole = h .inv .1 in
-    let weight = c .weight-if .ensures ∙ ap (λ (t : Bool). oneIf t * 2 ^ v) (c .before .joins-hold .ensures) ∙ sym (ap (λ (t : Bool). oneIf (t && joinsBy (a .plan .now) (a .block .now) (a .i) v (heldIn (a .slot .now) .bindings)) * 2 ^ v) (sym (c .before .before .before .is-later .ensures) ∙ not-false (c .before .before .before .is-later .result) (c .before .before .if1 .left))) in
+    let weight = c .weight-if .ensures ∙ ap (λ (t : Bool). oneIf t * 2 ^ v) (c .before .is-later .ensures) ∙ sym (ap (λ (t : Bool). oneIf (laterBy (a .plan .now) (a .block .now) (a .i) v (heldIn (a .slot .now)) && t) * 2 ^ v) (sym (c .before .before .before .joins-hold .ensures) ∙ not-false (c .before .before .before .joins-hold .result) (c .before .before .if1 .left)) ∙ ap (λ (t : Bool). oneIf t * 2 ^ v) (and-true (laterBy (a .plan .now) (a .block .now) (a .i) v (heldIn (a .slot .now))))) in
     omega arith
 
 loop-less-2 : tie.Need-loop-less-2 Inv-loop μ-loop
@@ -99,7 +100,7 @@ loop-again-2 c =
     let v = low .result in
     let parts = agreeing-lowest (a .plan .now) (a .block .now) (a .i) (heldIn (a .slot .now)) (h .rest) v (h .inv .0) (low .ensures) in
     let whole = h .inv .1 in
-    let weight = c .weight-if .ensures ∙ ap (λ (t : Bool). oneIf t * 2 ^ v) (c .before .joins-hold .ensures) ∙ sym (ap (λ (t : Bool). oneIf (t && joinsBy (a .plan .now) (a .block .now) (a .i) v (heldIn (a .slot .now) .bindings)) * 2 ^ v) (sym (c .before .before .before .is-later .ensures) ∙ not-false (c .before .before .before .is-later .result) (c .before .before .if1 .left))) in
+    let weight = c .weight-if .ensures ∙ ap (λ (t : Bool). oneIf t * 2 ^ v) (c .before .is-later .ensures) ∙ sym (ap (λ (t : Bool). oneIf (laterBy (a .plan .now) (a .block .now) (a .i) v (heldIn (a .slot .now)) && t) * 2 ^ v) (sym (c .before .before .before .joins-hold .ensures) ∙ not-false (c .before .before .before .joins-hold .result) (c .before .before .if1 .left)) ∙ ap (λ (t : Bool). oneIf t * 2 ^ v) (and-true (laterBy (a .plan .now) (a .block .now) (a .i) v (heldIn (a .slot .now))))) in
     let is = c .before .before .before .before .without-bit .ensures in
     let small = h .inv .0 in
     let left = ap (λ (x : ℕ). agreeingBy (a .plan .now) (a .block .now) (a .i) x (heldIn (a .slot .now))) is in
@@ -122,10 +123,10 @@ firing-of-spec =
     loop-holds
     lowest-bit-requires
     without-bit-requires
-    is-later-requires
+    joins-hold-requires
     loop-less
     loop-again
-    joins-hold-requires
+    is-later-requires
     weight-if-requires
     add-firing
     loop-less-2
