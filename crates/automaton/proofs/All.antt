@@ -7,8 +7,8 @@ use native.Mathlib.Omega.{arith}
 use Rattle.numbers.specs.Numbers.{upto, every}
 use Rattle.numbers.proofs.Cases.{same-test}
 use Rattle.numbers.proofs.Every.{every-of, every-true}
-use Rattle.automaton.specs.Lists.{implies, all}
-use Rattle.automaton.proofs.Lists.{all-mem, upto-mem}
+use Rattle.automaton.specs.Filtering.{implies, all}
+use Rattle.automaton.proofs.Membership.{all-mem, upto-mem}
 
 pub implies-of : (s t : Bool) → (s ≡ true → t ≡ true) → implies s t ≡ true
 implies-of true t f = f refl

@@ -16,10 +16,10 @@ use Rattle.numbers.proofs.Sum.{sum-same, sum-zero, sum-add}
 use Rattle.numbers.proofs.Subsets.{allowed, asked, forced, forced-of, count-asked}
 use Rattle.patterns.specs.declared.Pattern.{Pattern}
 use Rattle.patterns.specs.Checked.{setOf, isGroup}
-use Rattle.automaton.specs.Lists.{implies, all}
+use Rattle.automaton.specs.Filtering.{implies, all}
 use Rattle.automaton.specs.Automaton.{stateOf, isState, opens, loops, leaves, variablesOf}
 use Rattle.automaton.specs.Counts.{setSize}
-use Rattle.automaton.proofs.Lists.{both, clash, all-mem, upto-mem, all-upto-true}
+use Rattle.automaton.proofs.Membership.{both, clash, all-mem, upto-mem, all-upto-true}
 
 implied : (a b : Bool) → implies a b ≡ true → a ≡ true → b ≡ true
 implied true b h e = h

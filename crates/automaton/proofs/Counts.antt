@@ -17,7 +17,7 @@ use Rattle.numbers.proofs.Upto.{upto-snoc}
 use Rattle.patterns.specs.declared.Pattern.{Pattern}
 use Rattle.patterns.specs.Patterns.{mostVariables, mostConditions, mostSets}
 use Rattle.patterns.specs.Checked.{setOf, isGroup, InOrder}
-use Rattle.automaton.specs.Lists.{keep, filter, collect}
+use Rattle.automaton.specs.Filtering.{keep, filter, collect}
 use Rattle.automaton.specs.Automaton.{IsListing, stateOf, isState, opens, marked, leaves, stepWord}
 use Rattle.automaton.specs.Counts.{setSize, groupSize, stepVariable, stepsOfSet, stepsGiven}
 use Rattle.automaton.specs.Steps.{steps, stepsFrom, stepOn, stepsAt}

@@ -1,4 +1,4 @@
-pub mod Lists
+pub mod Membership
 pub mod Ordered
 pub mod Listing
 pub mod All

@@ -14,10 +14,10 @@ use Rattle.numbers.proofs.Count.{oneIf-bound}
 use Rattle.patterns.specs.declared.Pattern.{Pattern}
 use Rattle.patterns.specs.Patterns.{mostVariables, mostConditions}
 use Rattle.patterns.specs.Checked.{conditionAt}
-use Rattle.automaton.specs.Lists.{filter, collect}
+use Rattle.automaton.specs.Filtering.{filter, collect}
 use Rattle.automaton.specs.Automaton.{State, IsListing, stateOf, isState, leaves, opens, marked, carries, carried, stepWord, variablesOf}
 use Rattle.automaton.specs.Steps.{stepsFrom, steps}
-use Rattle.automaton.proofs.Lists.{both, mem-filter, filter-mem, mem-map, map-mem, mem-collect, collect-mem, upto-mem}
+use Rattle.automaton.proofs.Membership.{both, mem-filter, filter-mem, mem-map, map-mem, mem-collect, collect-mem, upto-mem}
 use Rattle.automaton.proofs.Ordered.{Ordered, ordered-append, ordered-filter, ordered-map, ordered-upto, ordered-unique}
 
 pub leaves-variable : (p : Pattern) (S : State) (v : ℕ) → leaves p S v ≡ true → v < p .n

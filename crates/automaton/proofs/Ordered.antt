@@ -6,8 +6,8 @@ use mathlib.Core.Bool.{Bool, true, false}
 use mathlib.Core.List.{List, [], _∷_, _++_, map, List·Memᴰ, List·Memᴰ·head, List·Memᴰ·tail, List·Memᴰ·not-nil, List·Memᴰ·cases-cons, List·Memᴰ·append-cases}
 use Prim.Native.Nat.{ℕ, zero, suc, _<_}
 use Rattle.numbers.specs.Numbers.{upto}
-use Rattle.automaton.specs.Lists.{keep, filter}
-use Rattle.automaton.proofs.Lists.{mem-filter, mem-map, mem-upto}
+use Rattle.automaton.specs.Filtering.{keep, filter}
+use Rattle.automaton.proofs.Membership.{mem-filter, mem-map, mem-upto}
 
 module _ {A : Type 0} (R : A → A → Type 0) where
   abbrev pub Ordered : List A → Type 0

@@ -12,11 +12,11 @@ use Rattle.numbers.specs.Numbers.{upto}
 use Rattle.numbers.proofs.Cases.{by-test}
 use Rattle.numbers.proofs.Memory.{written-behind}
 use Rattle.patterns.specs.declared.Pattern.{Pattern}
-use Rattle.automaton.specs.Lists.{keep, filter, collect}
+use Rattle.automaton.specs.Filtering.{keep, filter, collect}
 use Rattle.automaton.specs.Automaton.{stateOf, isState, leaves, stepWord, variablesOf}
 use Rattle.automaton.specs.Listing.{stepBytes, wordBytes, stepRoom, listingBytes, allZero}
 use Rattle.automaton.specs.Steps.{stepsFrom, steps, stepOn, stepsAt, Sink, sinkOf, put, puts}
-use Rattle.automaton.proofs.Lists.{length-upto}
+use Rattle.automaton.proofs.Membership.{length-upto}
 
 -- ## The steps, state by state and variable by variable
 

@@ -9,7 +9,7 @@ use Rattle.numbers.specs.Numbers.{upto, oneIf}
 use Rattle.patterns.specs.declared.Condition.{Condition}
 use Rattle.patterns.specs.declared.Pattern.{Pattern}
 use Rattle.patterns.specs.Checked.{setOf, isGroup, conditionAt}
-use Rattle.automaton.specs.Lists.{implies, all}
+use Rattle.automaton.specs.Filtering.{implies, all}
 
 abbrev pub variablesOf : Pattern → List ℕ
 variablesOf p = upto 0 (p .n)

@@ -6,7 +6,7 @@ use lib.Dec.{eqb}
 use Rattle.numbers.specs.Numbers.{count, field}
 use Rattle.patterns.specs.declared.Pattern.{Pattern}
 use Rattle.patterns.specs.Checked.{setOf, isGroup}
-use Rattle.automaton.specs.Lists.{filter}
+use Rattle.automaton.specs.Filtering.{filter}
 
 -- how many variables a set has, and how many of them are group variables
 abbrev pub setSize : Pattern → ℕ → ℕ

@@ -1,4 +1,4 @@
-pub mod Lists
+pub mod Filtering
 pub mod Automaton
 pub mod Listing
 pub mod Steps

@@ -7,7 +7,7 @@ use Rattle.numbers.specs.Numbers.{field}
 use Rattle.records.specs.declared.Answer.{Answer}
 use Rattle.records.specs.Blocks.{refused}
 use Rattle.patterns.specs.Checked.{patternAnswer, patternOf}
-use Rattle.automaton.specs.Lists.{collect}
+use Rattle.automaton.specs.Filtering.{collect}
 use Rattle.automaton.specs.Automaton.{IsListing}
 
 -- one 64-bit number a step: eight bytes, high first

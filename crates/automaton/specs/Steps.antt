@@ -6,7 +6,7 @@ use lib.Dec.{ltb}
 use lib.ListN.{length}
 use Rattle.numbers.specs.Numbers.{upto, written}
 use Rattle.patterns.specs.declared.Pattern.{Pattern}
-use Rattle.automaton.specs.Lists.{keep, filter, collect}
+use Rattle.automaton.specs.Filtering.{keep, filter, collect}
 use Rattle.automaton.specs.Automaton.{variablesOf, stateOf, isState, leaves, stepWord}
 use Rattle.automaton.specs.Listing.{stepBytes, wordBytes, stepRoom}
 

@@ -9,7 +9,7 @@ ghost use Rattle.numbers.specs.Numbers.{oneIf, field, written};
 ghost use Rattle.records.specs.Blocks.{refused};
 ghost use Rattle.patterns.specs.Patterns.{mostVariables, mostConditions};
 ghost use Rattle.patterns.specs.Checked.{setOf, conditionAt, InOrder};
-ghost use Rattle.automaton.specs.Lists.{implies, all};
+ghost use Rattle.automaton.specs.Filtering.{implies, all};
 ghost use Rattle.automaton.specs.Automaton.{variablesOf, stateOf, opens, loops, leaves, marked, carries, isState, carried, stepWord};
 ghost use Rattle.automaton.specs.Listing.{stepBytes, wordBytes, allZero, ListingPromise};
 ghost use Rattle.automaton.specs.Steps.{stepOn, stepsFrom, stepsAt, steps, sinkOf, put, puts};

@@ -18,7 +18,7 @@ use Rattle.records.specs.Records.{recordAt, classOf}
 use Rattle.patterns.specs.declared.Condition.{Condition}
 use Rattle.patterns.specs.Patterns.{mostConditions, lastAttribute}
 use Rattle.patterns.specs.Comparison.{value, orderOf, meets, constantValue, comparedWith, holds}
-use Rattle.automaton.specs.Lists.{implies}
+use Rattle.automaton.specs.Filtering.{implies}
 use Rattle.firing.specs.Plan.{isOwn, onClass, isOnClass, otherOwn, isOther, classAttribute, bothSides, typesTogether, typePlaces, sampleOf, classHolds, classMask, conditionIn, classIn, Sound, Classed}
 use Rattle.firing.specs.Firing.{ownHolds, otherHolds, settledBy, canBy}
 use Rattle.firing.proofs.Own.{own-none}

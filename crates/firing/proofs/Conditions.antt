@@ -9,7 +9,7 @@ use Rattle.numbers.proofs.Cases.{by-test, neither}
 use Rattle.records.specs.declared.Record.{Record}
 use Rattle.patterns.specs.declared.Condition.{Condition}
 use Rattle.patterns.specs.Comparison.{holds}
-use Rattle.automaton.specs.Lists.{implies, all, keep, filter}
+use Rattle.automaton.specs.Filtering.{implies, all, keep, filter}
 use Rattle.automaton.specs.Automaton.{carries}
 use Rattle.automaton.proofs.All.{all-same}
 use Rattle.rule.specs.Rule.{Block, Binding, Reading, recordIn, binds, choices, passes}

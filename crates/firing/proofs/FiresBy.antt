@@ -20,9 +20,9 @@ use Rattle.patterns.specs.declared.Pattern.{Pattern}
 use Rattle.patterns.specs.Patterns.{mostVariables, mostConditions}
 use Rattle.patterns.specs.Checked.{conditionAt, InOrder}
 use Rattle.patterns.specs.Comparison.{holds}
-use Rattle.automaton.specs.Lists.{implies, all}
+use Rattle.automaton.specs.Filtering.{implies, all}
 use Rattle.automaton.specs.Automaton.{leaves, marked, carries}
-use Rattle.automaton.proofs.Lists.{all-mem}
+use Rattle.automaton.proofs.Membership.{all-mem}
 use Rattle.automaton.proofs.All.{implies-of, implies-true, all-of, all-same, all-map, all-upto, implies-yes}
 use Rattle.rule.specs.Rule.{Binding, Reading, TimesNeverFall, behindEnd, recordIn, timeAt, binds, passes, inOrder, allowed, fires}
 use Rattle.slots.specs.Slots.{holding}

@@ -21,8 +21,8 @@ use Rattle.patterns.specs.declared.Condition.{Condition}
 use Rattle.patterns.specs.Patterns.{mostConditions}
 use Rattle.patterns.specs.Comparison.{value, orderOf, meets, holds, raise}
 use Rattle.patterns.proofs.Comparison.{compared-value, raised-holds}
-use Rattle.automaton.specs.Lists.{implies, all}
-use Rattle.automaton.proofs.Lists.{all-mem, clash}
+use Rattle.automaton.specs.Filtering.{implies, all}
+use Rattle.automaton.proofs.Membership.{all-mem, clash}
 use Rattle.automaton.proofs.All.{implies-of, implies-true, all-of, all-same}
 use Rattle.rule.specs.Rule.{Binding, Reading}
 use Rattle.slots.specs.Slots.{bindingsIn, countIn, stateIn}

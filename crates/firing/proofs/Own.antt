@@ -14,7 +14,7 @@ use Rattle.numbers.proofs.Bits.{mask-same, mask-all, mask-without}
 use Rattle.records.specs.declared.Record.{Record}
 use Rattle.patterns.specs.declared.Condition.{Condition}
 use Rattle.patterns.specs.Comparison.{holds}
-use Rattle.automaton.specs.Lists.{implies}
+use Rattle.automaton.specs.Filtering.{implies}
 use Rattle.firing.specs.Plan.{isOwn, isOnClass, sampleOf, classHolds, classMask}
 use Rattle.firing.specs.Firing.{settled, settledOnClass}
 

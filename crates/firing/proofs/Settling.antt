@@ -22,8 +22,8 @@ use Rattle.patterns.specs.declared.Condition.{Condition}
 use Rattle.patterns.specs.Patterns.{lastAttribute}
 use Rattle.patterns.specs.Comparison.{value, raise, constantValue, comparedWith, orderOf, meets, holds}
 use Rattle.patterns.proofs.Comparison.{compared-constant, compared-value, raised-holds}
-use Rattle.automaton.specs.Lists.{implies}
-use Rattle.automaton.proofs.Lists.{clash}
+use Rattle.automaton.specs.Filtering.{implies}
+use Rattle.automaton.proofs.Membership.{clash}
 use Rattle.firing.specs.Plan.{classAttribute, otherOwn, isOther, otherMask, bothSides, conditionIn, othersIn, Classed}
 use Rattle.firing.specs.Firing.{ownHolds, otherHolds, settled, settledOrder, valuesOf, settledBy}
 use Rattle.firing.proofs.Own.{settled-holds, settled-fails, settled-mask}

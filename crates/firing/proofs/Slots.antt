@@ -11,7 +11,7 @@ use Rattle.numbers.specs.Numbers.{number}
 use Rattle.numbers.specs.Bits.{bit, within, disjoint}
 use Rattle.numbers.proofs.Cases.{by-order}
 use Rattle.records.specs.Records.{recordAt}
-use Rattle.automaton.specs.Lists.{implies}
+use Rattle.automaton.specs.Filtering.{implies}
 use Rattle.rule.specs.Rule.{Binding}
 use Rattle.slots.specs.Slots.{bindingOf, bindingsIn, countIn, stateIn, heldIn}
 use Rattle.firing.specs.Plan.{beforeIn, afterIn, marksIn}

@@ -14,9 +14,9 @@ use Rattle.numbers.proofs.Bits.{mask-inside, mask-bit, within-mask, within-mask
 use Rattle.patterns.specs.declared.Pattern.{Pattern}
 use Rattle.patterns.specs.Patterns.{mostVariables}
 use Rattle.patterns.specs.Checked.{setOf, isGroup}
-use Rattle.automaton.specs.Lists.{implies, all}
+use Rattle.automaton.specs.Filtering.{implies, all}
 use Rattle.automaton.specs.Automaton.{State, variablesOf, opens, loops, leaves, marked}
-use Rattle.automaton.proofs.Lists.{clash}
+use Rattle.automaton.proofs.Membership.{clash}
 use Rattle.automaton.proofs.All.{implies-of, implies-true, all-upto}
 use Rattle.firing.specs.Plan.{standing, stands, variableMask}
 

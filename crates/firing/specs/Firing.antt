@@ -16,7 +16,7 @@ use Rattle.patterns.specs.declared.Condition.{Condition}
 use Rattle.patterns.specs.declared.Pattern.{Pattern}
 use Rattle.patterns.specs.Patterns.{mostVariables, mostConditions}
 use Rattle.patterns.specs.Comparison.{value, orderOf, meets, holds, raise}
-use Rattle.automaton.specs.Lists.{implies, all}
+use Rattle.automaton.specs.Filtering.{implies, all}
 use Rattle.rule.specs.Rule.{Binding, Reading, lastOf}
 use Rattle.rule.specs.Promises.{mostBindings}
 use Rattle.slots.specs.Slots.{Held, slotBytes, countIn, stateIn, bindingsIn}

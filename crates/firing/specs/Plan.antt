@@ -16,7 +16,7 @@ use Rattle.patterns.specs.declared.Pattern.{Pattern}
 use Rattle.patterns.specs.Patterns.{mostVariables, mostConditions, lastAttribute, lastOperator, conditionOf}
 use Rattle.patterns.specs.Checked.{filled, conditionAt, setOf, isGroup}
 use Rattle.patterns.specs.Comparison.{meets, holds}
-use Rattle.automaton.specs.Lists.{implies}
+use Rattle.automaton.specs.Filtering.{implies}
 
 abbrev pub planRoom : ℕ
 planRoom = 102

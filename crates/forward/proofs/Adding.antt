@@ -7,8 +7,8 @@ use Prim.Native.Nat.{ℕ, _+_, _*_, _≤_, _<_}
 use native.Mathlib.Numerals.{add-one}
 use native.Mathlib.Omega.{arith}
 use lib.ListN.{length, length-append}
-use Rattle.automaton.specs.Lists.{collect}
-use Rattle.rule.proofs.Lists.{collect-append}
+use Rattle.automaton.specs.Filtering.{collect}
+use Rattle.rule.proofs.OnlyOrElse.{collect-append}
 use Rattle.slots.specs.Slots.{Held, slotBytes, grow, stateIn, heldIn, slotAt, slotsAt}
 use Rattle.firing.specs.Firing.{leavesBy, agreesBy}
 use Rattle.forward.specs.Live.{oneBy, firedBy, extendBy, unbound, stepBy, firstBy, begunBy}

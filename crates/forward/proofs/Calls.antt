@@ -18,9 +18,9 @@ use Rattle.patterns.specs.Checked.{patternAnswer, InOrder}
 use Rattle.patterns.proofs.InOrder.{accepted-in-order}
 use Rattle.rule.specs.Rule.{pack}
 use Rattle.rule.specs.Promises.{Outcome, Forward}
-use Rattle.rule.specs.Lists.{forward}
+use Rattle.rule.specs.Computed.{forward}
 use Rattle.rule.specs.Calls.{inputAnswer, patternIn, blockIn, zeros, roomIn, resultOf, mostLive, workPerReading, LimitInOrder, ForwardCall, refused-input, refused-limit, answered}
-use Rattle.rule.proofs.Forward.{forward-is}
+use Rattle.rule.proofs.ForwardAnswers.{forward-is}
 use Rattle.rule.proofs.Inputs.{input-pattern, input-block, input-in-order, times-never-fall}
 use Rattle.slots.proofs.Results.{length-bytesOf, bytesOf-append, take-written-all, length-written}
 use Rattle.firing.specs.Plan.{IsPlan}

@@ -11,11 +11,11 @@ use borrow.Author.Tests.{le-ltb, lt-ltb, ltb-true}
 use lib.ListN.{length, length-append}
 use Rattle.numbers.specs.Numbers.{bytesOf, written}
 use Rattle.numbers.specs.Bits.{within}
-use Rattle.automaton.specs.Lists.{keep, filter}
+use Rattle.automaton.specs.Filtering.{keep, filter}
 use Rattle.rule.specs.Rule.{Reading, Line, packed, packBindings, pack}
-use Rattle.rule.specs.Lists.{line}
-use Rattle.rule.proofs.Pack.{length-pack-bindings}
-use Rattle.rule.proofs.Found.{pack-append}
+use Rattle.rule.specs.Computed.{line}
+use Rattle.rule.proofs.Packing.{length-pack-bindings}
+use Rattle.rule.proofs.SkipBranch.{pack-append}
 use Rattle.slots.specs.Slots.{Held, slotBytes, stateIn, heldIn, slotAt, slotsAt}
 use Rattle.slots.specs.Results.{lineNumbers}
 use Rattle.slots.proofs.Results.{length-bytesOf, written-lines, length-written}

@@ -17,7 +17,7 @@ use Rattle.slots.proofs.Slots.{slotAt-before, slotAt-after, slotAt-written, slo
 use Rattle.forward.specs.Live.{isLong, long}
 use Rattle.forward.specs.Memory.{Standing, Outside, Apart, Added}
 use Rattle.forward.proofs.Parts.{partAt, putSlot, part-slot}
-use Rattle.forward.proofs.Longs.{long-short, long-over, grow-short}
+use Rattle.forward.proofs.TooLong.{long-short, long-over, grow-short}
 
 -- ## What stands elsewhere
 
@@ -189,5 +189,5 @@ added-long {w} {x} {dst} {limit} {t} {o} h =
     }
 
 pub standing-none : (w : List ℕ) (dst limit : ℕ) → Standing w dst limit 0 false []
-unfolding slotsAt long Rattle.rule.specs.Lists.any
+unfolding slotsAt long Rattle.rule.specs.Computed.any
 standing-none w dst limit = record { count = refl; noted = refl; held = λ e h. refl }

@@ -9,15 +9,15 @@ use Rattle.numbers.specs.Numbers.{upto}
 use Rattle.numbers.specs.Bits.{bit, disjoint, IsLowestBit}
 use Rattle.numbers.proofs.Every.{every-of}
 use Rattle.patterns.specs.Patterns.{mostVariables, mostConditions}
-use Rattle.automaton.specs.Lists.{all, keep, collect}
+use Rattle.automaton.specs.Filtering.{all, keep, collect}
 use Rattle.automaton.proofs.All.{implies-of}
-use Rattle.rule.specs.Lists.{orElse}
+use Rattle.rule.specs.Computed.{orElse}
 use Rattle.slots.specs.Slots.{Held, grow}
 use Rattle.firing.specs.Plan.{marksIn, joinsIn}
 use Rattle.firing.specs.Firing.{leavesBy, laterThan, laterBy, joinHolds, joinsBy, agreesBy, firesBy}
 use Rattle.forward.specs.Live.{oneBy, firedBy, extendBy, unbound, stepBy, firstBy, begunBy}
-use Rattle.forward.proofs.Lists.{filter-same}
-use Rattle.forward.proofs.Turns.{made-none, length-made, made-lowest}
+use Rattle.forward.proofs.MapFilter.{filter-same}
+use Rattle.forward.proofs.MaskInTurn.{made-none, length-made, made-lowest}
 
 module _ (plan bytes : List ℕ) (i : ℕ) where
   -- ## Variable by variable

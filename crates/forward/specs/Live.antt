@@ -9,10 +9,10 @@ use Rattle.numbers.specs.Numbers.{upto}
 use Rattle.numbers.specs.Bits.{bit, within}
 use Rattle.records.specs.Records.{eventKind, recordAt}
 use Rattle.patterns.specs.Patterns.{mostVariables}
-use Rattle.automaton.specs.Lists.{keep, filter, collect}
+use Rattle.automaton.specs.Filtering.{keep, filter, collect}
 use Rattle.rule.specs.Rule.{Line, startOf, pastMark, gapMark}
 use Rattle.rule.specs.Promises.{mostBindings}
-use Rattle.rule.specs.Lists.{orElse, any, line}
+use Rattle.rule.specs.Computed.{orElse, any, line}
 use Rattle.slots.specs.Slots.{Held, grow}
 use Rattle.firing.specs.Firing.{canBy, leavesBy, agreesBy, firesBy}
 

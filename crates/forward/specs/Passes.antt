@@ -12,7 +12,7 @@ use Rattle.records.specs.Blocks.{mostRecords}
 use Rattle.patterns.specs.declared.Pattern.{Pattern}
 use Rattle.patterns.specs.Checked.{InOrder}
 use Rattle.rule.specs.Rule.{Line, TimesNeverFall, pack}
-use Rattle.rule.specs.Lists.{forward}
+use Rattle.rule.specs.Computed.{forward}
 use Rattle.rule.specs.Calls.{mostLive, workPerReading}
 use Rattle.firing.specs.Plan.{IsPlan}
 

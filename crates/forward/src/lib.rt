@@ -8,7 +8,7 @@ ghost use Rattle.numbers.specs.Numbers.{first};
 ghost use Rattle.records.specs.Records.{recordBytes};
 ghost use Rattle.patterns.specs.Patterns.{mostVariables, mostConditions};
 ghost use Rattle.rule.specs.Rule.{startOf};
-ghost use Rattle.rule.specs.Lists.{line};
+ghost use Rattle.rule.specs.Computed.{line};
 ghost use Rattle.rule.specs.Calls.{ForwardCall};
 ghost use Rattle.slots.specs.Slots.{slotBytes, slotAt, slotsAt, heldIn, countIn, grow};
 ghost use Rattle.firing.specs.Plan.{Sound, Classed};

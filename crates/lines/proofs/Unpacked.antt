@@ -9,9 +9,8 @@ use lib.Seq.{getD-at, getD-append-add}
 use Rattle.numbers.specs.Numbers.{bytesOf}
 use Rattle.numbers.proofs.Numbers.{number-2}
 use Rattle.rule.specs.Rule.{Binding, Reading, Line, packed, packBindings, pack}
-use Rattle.rule.proofs.Pack.{length-pack-bindings}
-use Rattle.rule.proofs.Packing.{BindingFits, LineFits, AllFit}
-use Rattle.rule.proofs.Found.{pack-append}
+use Rattle.rule.proofs.Packing.{length-pack-bindings, BindingFits, LineFits, AllFit}
+use Rattle.rule.proofs.SkipBranch.{pack-append}
 use Rattle.lines.specs.Results.{numberAt, markAt, countAt, bindingOf, bindingsAt, lineAt, placeOf, linesIn}
 
 -- ## Numbers

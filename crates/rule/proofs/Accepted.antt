@@ -11,8 +11,8 @@ use Rattle.patterns.specs.declared.Pattern.{Pattern}
 use Rattle.rule.specs.Rule.{Block, Line, Report, TimesNeverFall, pack}
 use Rattle.rule.specs.Promises.{Outcome, Forward, StartByStart, TooLong, refusedWith, success}
 use Rattle.rule.specs.Calls.{inputAnswer, patternIn, blockIn, roomIn, resultOf, StartByStartCall, ForwardCall}
-use Rattle.rule.proofs.Sense.{never-twice}
-use Rattle.rule.proofs.Over.{long-in}
+use Rattle.rule.proofs.EveryReading.{never-twice}
+use Rattle.rule.proofs.FoundTooLong.{long-in}
 use Rattle.rule.proofs.Inputs.{input-in-order, times-never-fall}
 
 -- ## A pass over a checked pattern and block

@@ -9,11 +9,10 @@ use Rattle.records.specs.Blocks.{refused}
 use Rattle.rule.specs.Rule.{TimesNeverFall}
 use Rattle.rule.specs.Promises.{Outcome}
 use Rattle.rule.specs.Calls.{inputAnswer, patternIn, blockIn, zeros, roomIn, resultOf, StartByStartCall, MeasureCall, LimitInOrder, ForwardCall, workPerReading, mostLive}
-use Rattle.rule.specs.Lists.{forward}
+use Rattle.rule.specs.Computed.{forward}
 use Rattle.rule.specs.Starts.{startAnswer, measureAnswer}
-use Rattle.rule.proofs.Start.{one-start}
-use Rattle.rule.proofs.Starts.{start-answer-is, measure-answer-is, one-measure}
-use Rattle.rule.proofs.Forward.{forward-is, one-answer}
+use Rattle.rule.proofs.StartAnswers.{one-start, start-answer-is, measure-answer-is, one-measure}
+use Rattle.rule.proofs.ForwardAnswers.{forward-is, one-answer}
 use Rattle.rule.proofs.Inputs.{input-in-order, times-never-fall}
 
 -- ## Each promise fixes its answer

@@ -12,11 +12,11 @@ use Rattle.numbers.proofs.Cases.{by-order}
 use Rattle.rule.specs.Rule.{Block, Reading, LiveAfter, Report, TimesNeverFall, pack}
 use Rattle.rule.specs.Promises.{Outcome, Forward, Meets, NoRoom, TooMany, refusal, success}
 use Rattle.rule.specs.Calls.{inputAnswer, patternIn, blockIn, zeros, roomIn, resultOf, StartByStartCall, LimitInOrder, ForwardCall}
-use Rattle.rule.specs.Lists.{live, closed, closing}
-use Rattle.rule.proofs.Sense.{never-twice}
-use Rattle.rule.proofs.Unique.{one-report}
+use Rattle.rule.specs.Computed.{live, closed, closing}
+use Rattle.rule.proofs.EveryReading.{never-twice}
+use Rattle.rule.proofs.OneReport.{one-report}
 use Rattle.rule.proofs.Report.{closed-is}
-use Rattle.rule.proofs.Found.{pack-append}
+use Rattle.rule.proofs.SkipBranch.{pack-append}
 use Rattle.rule.proofs.Written.{report-written, live-inside}
 use Rattle.rule.proofs.Inputs.{input-in-order, input-refused, times-never-fall}
 use Rattle.rule.proofs.Calls.{start-by-start-one, forward-one}

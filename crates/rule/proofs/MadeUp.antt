@@ -11,7 +11,7 @@ use Rattle.rule.specs.Rule.{Line, Report}
 use Rattle.rule.specs.Promises.{Outcome, LiveCount, IsPeak, TooMany, NoRoom, Forward, refusal}
 use Rattle.rule.specs.Calls.{patternIn, blockIn, roomIn, ForwardCall}
 use Rattle.rule.specs.Bench.{benchPattern, benchBlock, fullResult}
-use Rattle.rule.proofs.Unique.{one-report}
+use Rattle.rule.proofs.OneReport.{one-report}
 use Rattle.rule.proofs.Inputs.{input-refused}
 use Rattle.rule.proofs.Accepted.{forward-call-told}
 use Rattle.rule.proofs.Demand3.{room-refused-only}

@@ -1,4 +1,5 @@
--- Two reports that differ never pack to the same numbers, and the packed numbers give the report back. Assumes nothing.
+-- How many numbers a reading packs to; two reports that differ never pack to the same numbers, and the packed numbers give
+-- the report back. Assumes nothing.
 use mathlib.Core.Path.{_≡_, refl, sym, ap, ap₂, _∙_}
 use mathlib.Core.Logic.{_⊎_, inl, inr}
 use mathlib.Core.List.{List, [], _∷_, _++_, append-assoc, head-eq-of-cons-eq, tail-eq-of-cons-eq, nil≢cons, cons≢nil, List·Memᴰ, List·Memᴰ·head, List·Memᴰ·tail, List·Memᴰ·not-nil, List·Memᴰ·eq-of-singleton, List·Memᴰ·append-cases}
@@ -10,7 +11,19 @@ use borrow.Author.Tests.{ne-eqb}
 use Rattle.rule.specs.Rule.{Binding, Reading, Line, packed, packBindings, pack}
 use Rattle.rule.specs.Promises.{mostBindings}
 use Rattle.rule.specs.Unpack.{bindingIn, bindingsIn, markIn, countIn, unpackLines, unpack}
-use Rattle.rule.proofs.Pack.{append-split, length-pack-bindings}
+
+-- ## How long
+
+-- lists of one length in front are equal, and so is what follows
+pub append-split : {A : Type 0} (a b x y : List A) → length a ≡ length b → a ++ x ≡ b ++ y → (a ≡ b) × (x ≡ y)
+append-split [] [] x y n e = (refl, e)
+append-split [] (b ∷ bs) x y n e = absurd (omega arith)
+append-split (a ∷ s) [] x y n e = absurd (omega arith)
+append-split (a ∷ s) (b ∷ t) x y n e = let h = append-split s t x y (omega arith) (tail-eq-of-cons-eq e) in (ap₂ _∷_ (head-eq-of-cons-eq e) (h .0), h .1)
+
+pub length-pack-bindings : (r : Reading) → length (packBindings r) ≡ length r
+length-pack-bindings [] = refl
+length-pack-bindings (b ∷ bs) = simp length-append (omega (arith, length-pack-bindings bs))
 
 -- ## What fits its fields
 

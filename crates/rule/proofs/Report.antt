@@ -11,14 +11,14 @@ use lib.Dec.{ltb}
 use borrow.Author.Tests.{ltb-true, ltb-false, leb-false, lt-leb, not-true}
 use Rattle.records.specs.declared.Record.{Record}
 use Rattle.patterns.specs.declared.Pattern.{Pattern}
-use Rattle.automaton.specs.Lists.{filter}
+use Rattle.automaton.specs.Filtering.{filter}
 use Rattle.rule.specs.Rule.{Block, Reading, Line, Before, sooner, startOf, Event, InWindow, Closes, gap, past, end, isFull, timeAt, recordIn, TimesNeverFall, pastMark, endMark, gapMark}
-use Rattle.rule.specs.Steps.{Partial, Live, Kept, IsReport}
-use Rattle.rule.specs.Lists.{isEvent, inWindow, live, line, lines, closing, closed, report}
-use Rattle.automaton.proofs.Lists.{map-mem, filter-mem, mem-filter, mem-map}
+use Rattle.rule.specs.Growth.{Partial, Live, Kept, IsReport}
+use Rattle.rule.specs.Computed.{isEvent, inWindow, live, line, lines, closing, closed, report}
+use Rattle.automaton.proofs.Membership.{map-mem, filter-mem, mem-filter, mem-map}
 use Rattle.automaton.proofs.Ordered.{Ordered, ordered-append, ordered-filter, ordered-map}
-use Rattle.rule.proofs.Heart.{event-yes, event-no, live-sound, live-complete}
-use Rattle.rule.proofs.Order.{live-ordered, start-lt}
+use Rattle.rule.proofs.LiveReadings.{event-yes, event-no, live-sound, live-complete}
+use Rattle.rule.proofs.LiveOrder.{live-ordered, start-lt}
 
 abbrev pub Sooner : Line → Line → Type 0
 Sooner x y = Before (x .reading) (y .reading)

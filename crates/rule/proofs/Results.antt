@@ -15,14 +15,13 @@ use Rattle.rule.specs.Rule.{Block, Reading, Line, Report, Closes, TimesN
 use Rattle.rule.specs.Promises.{mostBindings, TooLong}
 use Rattle.rule.specs.Calls.{patternIn, blockIn, roomIn, resultOf}
 use Rattle.rule.specs.Unpack.{unpack}
-use Rattle.rule.proofs.Pack.{append-split}
-use Rattle.rule.proofs.Sense.{variable-in}
-use Rattle.rule.proofs.Fit.{bound-in, long-long}
+use Rattle.rule.proofs.Packing.{append-split, LineFits, AllFit, Marked, unpack-pack, padded-apart, pack-below}
+use Rattle.rule.proofs.EveryReading.{variable-in}
+use Rattle.rule.proofs.ReadingBounds.{bound-in, long-long}
 use Rattle.rule.proofs.Written.{written-reported}
 use Rattle.rule.proofs.Inputs.{InputsInOrder, input-in-order, times-never-fall, few-records}
 use Rattle.rule.proofs.Lent.{length-bytes}
 use Rattle.rule.proofs.Accepted.{CallTold}
-use Rattle.rule.proofs.Packing.{LineFits, AllFit, Marked, unpack-pack, padded-apart, pack-below}
 
 -- ## Reports
 

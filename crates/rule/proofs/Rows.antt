@@ -21,16 +21,16 @@ use Rattle.automaton.specs.Listing.{stepRoom, stepsListed, ListingPromise}
 use Rattle.rule.specs.Rule.{Block, Reading, Line, TimesNeverFall, Report, pack}
 use Rattle.rule.specs.Promises.{Outcome, Forward, StartByStart, Measure, refusal, refusedWith, success}
 use Rattle.rule.specs.Calls.{inputAnswer, patternIn, blockIn, zeros, roomIn, resultOf, mostLive, LimitInOrder, ForwardCall, StartByStartCall, MeasureCall}
-use Rattle.rule.specs.Lists.{report, forward}
+use Rattle.rule.specs.Computed.{report, forward}
 use Rattle.rule.specs.Starts.{startAnswer, measureAnswer}
 use Rattle.rule.specs.Bench.{Row, asks, reports, lists, Says, table, agrees, table-agrees, sameList, sameReading, sameLines, sameAnswer, sameOutcome, limitInOrder}
-use Rattle.automaton.proofs.Lists.{both, all-mem}
+use Rattle.automaton.proofs.Membership.{both, all-mem}
 use Rattle.automaton.proofs.Listing.{steps-is}
 use Rattle.rule.proofs.Report.{report-is}
 use Rattle.rule.proofs.Written.{report-written}
 use Rattle.rule.proofs.Inputs.{times-never-fall, input-in-order}
-use Rattle.rule.proofs.Forward.{forward-is}
-use Rattle.rule.proofs.Starts.{start-answer-is, measure-answer-is}
+use Rattle.rule.proofs.ForwardAnswers.{forward-is}
+use Rattle.rule.proofs.StartAnswers.{start-answer-is, measure-answer-is}
 
 -- ## What is compared equal is equal
 

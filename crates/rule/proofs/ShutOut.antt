@@ -10,7 +10,7 @@ use lib.ListN.{length, getD, replicate, length-replicate}
 use Rattle.numbers.specs.Numbers.{bytesOf}
 use Rattle.records.specs.declared.Answer.{Answer}
 use Rattle.records.specs.Blocks.{refused}
-use Rattle.automaton.specs.Lists.{keep, filter}
+use Rattle.automaton.specs.Filtering.{keep, filter}
 use Rattle.rule.specs.Rule.{Line, startOf, Report, pack}
 use Rattle.rule.specs.Calls.{patternIn, blockIn, zeros, resultOf, ForwardCall}
 use Rattle.rule.specs.Bench.{benchPattern, benchFront, benchBlock, benchNumbers, frontNumbers, benchLines, lineFrom0, fullLimit, fullWork, fullResult, gives, P1, P3, P4, P7, benchReport, front, frontReport}

@@ -9,14 +9,14 @@ use Rattle.records.specs.declared.Answer.{Answer}
 use Rattle.records.specs.Blocks.{misfit, blockAnswer}
 use Rattle.patterns.specs.declared.Checked.{Checked}
 use Rattle.patterns.specs.Checked.{patternAnswer}
-use Rattle.automaton.specs.Lists.{collect}
+use Rattle.automaton.specs.Filtering.{collect}
 use Rattle.automaton.specs.Listing.{wordBytes, stepsListed, ListingPromise}
 use Rattle.automaton.proofs.Promise.{listing-promise-unique}
 use Rattle.rule.specs.Rule.{Line, Report, pack}
 use Rattle.rule.specs.Promises.{Measure, mostCounted}
 use Rattle.rule.specs.Calls.{inputAnswer, patternIn, blockIn, MeasureCall}
 use Rattle.rule.specs.Bench.{benchPattern, benchBlock, onePattern, benchSteps, gives, listingOf, P1, P2, P7, oneStep}
-use Rattle.rule.proofs.Unique.{one-report}
+use Rattle.rule.proofs.OneReport.{one-report}
 use Rattle.rule.proofs.Inputs.{input-accepts, input-refused}
 use Rattle.rule.proofs.Calls.{measure-one}
 use Rattle.rule.proofs.Rows.{rows}

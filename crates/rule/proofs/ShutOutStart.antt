@@ -11,7 +11,7 @@ use Rattle.rule.specs.Rule.{Line, Report, pack}
 use Rattle.rule.specs.Promises.{Outcome, NoRoom, StartByStart}
 use Rattle.rule.specs.Calls.{patternIn, blockIn, zeros, roomIn, resultOf, StartByStartCall}
 use Rattle.rule.specs.Bench.{benchPattern, benchFront, benchBlock, benchNumbers, frontNumbers, benchLines, lineFrom0, fullResult, gives, P1, P6, P7, benchReport, front, frontReport}
-use Rattle.rule.proofs.Unique.{one-report}
+use Rattle.rule.proofs.OneReport.{one-report}
 use Rattle.rule.proofs.Inputs.{input-refused}
 use Rattle.rule.proofs.Calls.{start-by-start-one, start-by-start-met}
 use Rattle.rule.proofs.Accepted.{start-by-start-told}

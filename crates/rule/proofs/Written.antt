@@ -1,4 +1,4 @@
--- The rule of specs/Steps, by which the list functions are proved, is the rule of specs/Rule where times never fall.
+-- The rule of specs/Growth, by which the list functions are proved, is the rule of specs/Rule where times never fall.
 -- Assumes nothing.
 use mathlib.Core.Path.{_≡_, refl, sym, ap, subst}
 use mathlib.Core.Logic.{_↔_}
@@ -9,9 +9,9 @@ use native.Mathlib.Omega.{arith}
 use lib.ListN.{length}
 use Rattle.patterns.specs.declared.Pattern.{Pattern}
 use Rattle.rule.specs.Rule.{Block, Binding, Reading, Event, Line, Closes, Follows, PartialReading, LiveAfter, IsReported, Report, lastOf, startOf, TimesNeverFall}
-use Rattle.rule.specs.Steps.{Partial, Live, Reported, IsReport}
+use Rattle.rule.specs.Growth.{Partial, Live, Reported, IsReport}
 use Rattle.numbers.proofs.Cases.{by-order}
-use Rattle.rule.proofs.Order.{start-le}
+use Rattle.rule.proofs.LiveOrder.{start-le}
 use Rattle.rule.proofs.Report.{spans, event-in, live-in}
 
 module _ (p : Pattern) (B : Block) where

@@ -13,14 +13,14 @@ use Rattle.records.specs.Blocks.{refused, misfit, gapBroken, broken, late, reco
 use Rattle.patterns.specs.Patterns.{mostVariables, mostConditions, header, headerBroken, setNumber, groupFlag, variableZero, leastSet, greatestSet, variableBroken, conditionOf, conditionZero, conditionWord, formBroken, conditionBroken}
 use Rattle.patterns.specs.Checked.{filled, patternUpTo, patternOf, firstBadVariable, firstBadCondition, patternAnswer, conditionAt}
 use Rattle.patterns.specs.Comparison.{signed, value, constantValue, orderOf, comparedWith, holds}
-use Rattle.automaton.specs.Lists.{all, keep, filter, collect}
+use Rattle.automaton.specs.Filtering.{all, keep, filter, collect}
 use Rattle.automaton.specs.Automaton.{opens, loops, leaves, marked, carries, isState, carried, stepWord}
 use Rattle.automaton.specs.Steps.{stepsFrom, steps}
 use Rattle.automaton.specs.Listing.{stepBytes, stepRoom, stepsListed, listingBytes, allZero, ListingPromise}
 use Rattle.rule.specs.Rule.{Binding, Reading, Line, oldestFirst, Report, binds, choices, passes, inOrder, allowed, fires, isFull}
 use Rattle.rule.specs.Promises.{Outcome}
 use Rattle.rule.specs.Calls.{inputAnswer, patternIn, blockIn, zeros, roomIn, resultOf, workPerReading, mostLive, ForwardCall, StartByStartCall, MeasureCall}
-use Rattle.rule.specs.Lists.{isEvent, inWindow, only, orElse, any, fired, extend, step, live, lines, closing, closed, report, isMet, peak, scan, forward}
+use Rattle.rule.specs.Computed.{isEvent, inWindow, only, orElse, any, fired, extend, step, live, lines, closing, closed, report, isMet, peak, scan, forward}
 use Rattle.rule.specs.Starts.{isPast, closesAt, until, markAt, anyFires, inTurn, close, skipFound, startFound, foundFrom, foundAll, linesOf, leastOver, startAnswer, measureAnswer}
 
 -- ## Patterns and blocks by their bytes

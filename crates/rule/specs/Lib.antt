@@ -1,8 +1,8 @@
 pub mod Rule
 pub mod Promises
 pub mod Calls
-pub mod Steps
-pub mod Lists
+pub mod Growth
+pub mod Computed
 pub mod Starts
 pub mod Unpack
 pub mod Bench

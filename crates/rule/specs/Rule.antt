@@ -11,7 +11,7 @@ use Rattle.records.specs.Records.{eventKind, gapKind}
 use Rattle.patterns.specs.declared.Condition.{Condition}
 use Rattle.patterns.specs.declared.Pattern.{Pattern}
 use Rattle.patterns.specs.Comparison.{holds}
-use Rattle.automaton.specs.Lists.{implies, all, filter}
+use Rattle.automaton.specs.Filtering.{implies, all, filter}
 use Rattle.automaton.specs.Automaton.{State, variablesOf, conditions, leaves, marked, carries}
 
 abbrev pub Block : Type 0

@@ -10,11 +10,11 @@ use Rattle.records.specs.declared.Answer.{Answer}
 use Rattle.records.specs.Blocks.{refused}
 use Rattle.numbers.specs.Numbers.{upto, first}
 use Rattle.patterns.specs.declared.Pattern.{Pattern}
-use Rattle.automaton.specs.Lists.{filter, collect}
+use Rattle.automaton.specs.Filtering.{filter, collect}
 use Rattle.automaton.specs.Automaton.{variablesOf}
 use Rattle.rule.specs.Rule.{Block, Reading, Line, timeAt, fires, isFull, pastMark, endMark, gapMark, pack}
 use Rattle.rule.specs.Promises.{Outcome, mostBindings, refusedWith, success}
-use Rattle.rule.specs.Lists.{isEvent, only, any, line}
+use Rattle.rule.specs.Computed.{isEvent, only, any, line}
 use Rattle.rule.specs.Promises.{measured}
 
 -- If its state then holds all variables it is reported: a full reading that closes, with its mark; or a partial reading

@@ -30,8 +30,8 @@ use Rattle.automaton.proofs.Counts.{all-steps}
 use Rattle.rule.specs.Rule.{Block, Line, TimesNeverFall, pack, packBindings}
 use Rattle.rule.specs.Promises.{Outcome, LiveCount, Forward, StartByStart, success}
 use Rattle.rule.specs.Calls.{inputAnswer, patternIn, blockIn, roomIn, StartByStartCall, ForwardCall}
-use Rattle.rule.proofs.Over.{long-in}
-use Rattle.rule.proofs.Sense.{never-twice}
+use Rattle.rule.proofs.FoundTooLong.{long-in}
+use Rattle.rule.proofs.EveryReading.{never-twice}
 use Rattle.rule.proofs.Inputs.{pattern-refusals, input-pattern, input-block, input-refused, input-in-order, times-never-fall}
 use Rattle.rule.proofs.Results.{checked-input}
 use Rattle.spaldep.specs.Packed.{placeOrUsed, packedAnswer, codeIn, placeOrUsedIn, readingsIn, peakIn}

@@ -14,7 +14,7 @@ use Rattle.rule.specs.Rule.{Line, Report}
 use Rattle.rule.specs.Calls.{patternIn, blockIn, mostLive, ForwardCall}
 use Rattle.rule.proofs.Accepted.{CallTold, forward-call-told}
 use Rattle.rule.proofs.Calls.{forward-one}
-use Rattle.rule.proofs.Unique.{one-report}
+use Rattle.rule.proofs.OneReport.{one-report}
 use Rattle.lines.specs.Text.{answerText}
 use Rattle.lines.specs.Results.{placeOf, linesIn}
 use Rattle.lines.proofs.Told.{told-lines, told-place}

@@ -24,7 +24,7 @@ use Rattle.rule.specs.Rule.{Block, TimesNeverFall, behindEnd, pack}
 use Rattle.rule.specs.Promises.{StartByStart, Measure, Outcome, refusedWith, success, mostCounted}
 use Rattle.rule.specs.Calls.{inputAnswer, zeros, roomIn, resultOf, StartByStartCall, MeasureCall}
 use Rattle.rule.specs.Starts.{Found, foundAll, linesOf, leastOver, startAnswer, measureAnswer}
-use Rattle.rule.proofs.Starts.{start-answer-is, measure-answer-is, ends-long, ends-full, ends-well, measure-ends-long, measure-ends-well}
+use Rattle.rule.proofs.StartAnswers.{start-answer-is, measure-answer-is, ends-long, ends-full, ends-well, measure-ends-long, measure-ends-well}
 use Rattle.slots.proofs.Results.{bytesOf-append}
 use Rattle.starts.specs.declared.Counts.{Counts}
 use Rattle.starts.specs.Sinks.{Sink, sinkOf, stop, emits, noneYet, answerBy, leftBy, measureBy}

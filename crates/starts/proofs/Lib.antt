@@ -1,7 +1,7 @@
 pub mod Sinks
 pub mod Readings
 pub mod Windows
-pub mod Turns
+pub mod MaskInTurn
 pub mod Masks
 pub mod Skips
 pub mod Starts

@@ -19,13 +19,13 @@ use Rattle.numbers.proofs.Every.{every-of}
 use Rattle.numbers.proofs.Bits.{bit-high, bit-zero, bit-and, bit-without, bits-same, mask-bound, mask-inside, mask-nothing, mask-same, mask-without, weight-in, weight-in-le}
 use Rattle.records.specs.Records.{recordCount}
 use Rattle.patterns.specs.Patterns.{mostVariables, mostConditions}
-use Rattle.automaton.specs.Lists.{all}
+use Rattle.automaton.specs.Filtering.{all}
 use Rattle.automaton.proofs.All.{implies-of}
 use Rattle.slots.specs.Slots.{Held}
 use Rattle.firing.specs.Plan.{marksIn, joinsIn}
 use Rattle.firing.specs.Firing.{ownHolds, canBy, leavesBy, laterThan, laterBy, joinHolds, joinsBy, agreesBy, firesBy}
 use Rattle.starts.specs.Skips.{firingBy, leavingBy, agreeingBy, Cans}
-use Rattle.starts.proofs.Turns.{low-bits}
+use Rattle.starts.proofs.MaskInTurn.{low-bits}
 
 -- ## One variable of a mask after another
 

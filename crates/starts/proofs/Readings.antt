@@ -19,8 +19,8 @@ use Rattle.automaton.proofs.All.{all-upto}
 use Rattle.rule.specs.Rule.{Binding, Reading, binds, fires, isFull, lastOf}
 use Rattle.rule.specs.Promises.{mostBindings}
 use Rattle.rule.specs.Starts.{anyFires, withBinding, NextFire}
-use Rattle.rule.proofs.Sense.{binds-mem}
-use Rattle.rule.proofs.Found.{none-fires, fires-none}
+use Rattle.rule.proofs.EveryReading.{binds-mem}
+use Rattle.rule.proofs.SkipBranch.{none-fires, fires-none}
 use Rattle.slots.specs.Slots.{Held, slotBytes, countIn, stateIn, heldIn, holding, grow}
 use Rattle.slots.proofs.Holding.{holding-grow, holding-bit}
 use Rattle.firing.specs.Firing.{canBy, firesBy, ReadBelow, Seated, Fit}
@@ -100,7 +100,7 @@ module _ (n j : ℕ) (slot : List ℕ) (r : Reads n j slot) (few : n ≤ mostVar
       (λ t. every-of (binds reading) n (λ v l. sym (holding-bit reading v (omega arith)) ∙ within-mask (λ v. true) state n t v l refl))
       (λ t. within-mask-of (λ v. true) state n (λ v l u. holding-bit reading v (omega arith) ∙ every-true (binds reading) n t v l))
       ∙ sym (all-upto (binds reading) n)
-      ∙ ap (λ (k : ℕ). Rattle.automaton.specs.Lists.all (binds reading) (Rattle.numbers.specs.Numbers.upto 0 k)) e
+      ∙ ap (λ (k : ℕ). Rattle.automaton.specs.Filtering.all (binds reading) (Rattle.numbers.specs.Numbers.upto 0 k)) e
 
   -- ## What fires
 

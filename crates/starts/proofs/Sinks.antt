@@ -9,8 +9,8 @@ use Rattle.numbers.specs.Numbers.{bytesOf, written}
 use Rattle.rule.specs.Rule.{Reading, pack, packBindings}
 use Rattle.rule.specs.Starts.{Found, linesOf, leastOver}
 use Rattle.rule.specs.Starts.Found.{closed, over}
-use Rattle.rule.proofs.Pack.{length-pack-bindings}
-use Rattle.rule.proofs.Found.{least-none}
+use Rattle.rule.proofs.Packing.{length-pack-bindings}
+use Rattle.rule.proofs.SkipBranch.{least-none}
 use Rattle.slots.specs.Slots.{countIn, heldIn}
 use Rattle.slots.specs.Results.{lineNumbers}
 use Rattle.slots.proofs.Slots.{length-heldIn}

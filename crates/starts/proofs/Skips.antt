@@ -16,7 +16,7 @@ use Rattle.patterns.specs.Patterns.{mostVariables}
 use Rattle.rule.specs.Rule.{Reading, fires}
 use Rattle.rule.specs.Promises.{mostBindings}
 use Rattle.rule.specs.Starts.{Found, withBinding, inTurn, skipUntil}
-use Rattle.rule.proofs.Found.{next-closes, next-takes, next-over}
+use Rattle.rule.proofs.SkipBranch.{next-closes, next-takes, next-over}
 use Rattle.slots.specs.Slots.{slotBytes, countIn, heldIn, grow}
 use Rattle.slots.proofs.Slots.{length-heldIn}
 use Rattle.starts.specs.declared.Start.{Start}
@@ -26,7 +26,7 @@ use Rattle.starts.specs.Sinks.{Sink, sinkOf, emit, emits}
 use Rattle.starts.specs.Skips.{Reads, Ready, Taking, Firing, NextBy, Of, Closed, Skipped, branchOver, Branched}
 use Rattle.starts.proofs.Sinks.{emits-append, sink-same}
 use Rattle.starts.proofs.Readings.{next-is, firing-is, firing-bound, grown-bindings, grown-reads}
-use Rattle.starts.proofs.Turns.{turn-none, turn-lowest, mask-turn, low-bits, rest-known}
+use Rattle.starts.proofs.MaskInTurn.{turn-none, turn-lowest, mask-turn, low-bits, rest-known}
 
 -- the same reading, held before a later record
 pub reads-later : (n j i : ℕ) (slot : List ℕ) → j ≤ i → Reads n j slot → Reads n i slot

@@ -13,8 +13,8 @@ use Rattle.records.proofs.Listed.{length-records}
 use Rattle.patterns.specs.declared.Pattern.{Pattern}
 use Rattle.rule.specs.Rule.{Block, fires}
 use Rattle.rule.specs.Starts.{until, markOf, withBinding, skipUntil, startFound, foundFrom, foundAll}
-use Rattle.rule.proofs.Found.{start-event, found-end, found-all, found-first}
-use Rattle.rule.proofs.Found.{start-gap as found-gap}
+use Rattle.rule.proofs.SkipBranch.{start-event, found-end, found-all, found-first}
+use Rattle.rule.proofs.SkipBranch.{start-gap as found-gap}
 use Rattle.slots.specs.Slots.{slotBytes, countIn, heldIn}
 use Rattle.starts.specs.declared.Start.{Start}
 use Rattle.starts.specs.Sinks.{Sink, emits}
@@ -22,7 +22,7 @@ use Rattle.starts.specs.Skips.{firingBy, Usable, Firing, Of, Branched, b
 use Rattle.starts.proofs.Sinks.{emits-append}
 use Rattle.starts.proofs.Readings.{nothing, firing-begins, firing-bound, empty-reads}
 use Rattle.starts.proofs.Windows.{is-event, is-gap}
-use Rattle.starts.proofs.Turns.{turn-none, mask-turn, low-bits}
+use Rattle.starts.proofs.MaskInTurn.{turn-none, mask-turn, low-bits}
 use Rattle.starts.proofs.Skips.{few-bits}
 
 -- what is found from record i

@@ -16,9 +16,9 @@ use Rattle.records.specs.Records.{recordAt, recordCount, recordsOf, eventKind}
 use Rattle.records.proofs.Listed.{length-records, record-listed}
 use Rattle.patterns.specs.declared.Pattern.{Pattern}
 use Rattle.rule.specs.Rule.{Block, behindEnd, pastMark, endMark, gapMark}
-use Rattle.rule.specs.Lists.{isEvent}
+use Rattle.rule.specs.Computed.{isEvent}
 use Rattle.rule.specs.Starts.{isPast, closesAt, until, markAt}
-use Rattle.rule.proofs.Found.{stays-open, closes-gap, closes-past, until-at, until-end, mark-past, mark-gap, mark-end}
+use Rattle.rule.proofs.SkipBranch.{stays-open, closes-gap, closes-past, until-at, until-end, mark-past, mark-gap, mark-end}
 use Rattle.starts.specs.Skips.{OpenTo, StartIs}
 
 module _ (bytes : List ℕ) where

@@ -8,9 +8,9 @@ use borrow.Author.Tests.{lt-ltb, not-true, not-false}
 use lib.Dec.{ltb}
 use Rattle.patterns.specs.declared.Pattern.{Pattern}
 use Rattle.patterns.specs.Checked.{setOf}
-use Rattle.automaton.specs.Lists.{implies, all}
+use Rattle.automaton.specs.Filtering.{implies, all}
 use Rattle.automaton.specs.Automaton.{stateOf, isState, variablesOf}
-use Rattle.automaton.proofs.Lists.{all-upto-true, all-upto-false}
+use Rattle.automaton.proofs.Membership.{all-upto-true, all-upto-false}
 use Rattle.automaton.proofs.is_state.Statement.{statement}
 use Rattle.automaton.proofs.is_state.Tie as tie
 

@@ -8,9 +8,9 @@ use borrow.Author.Tests.{not-true, not-false}
 use lib.Dec.{ltb}
 use Rattle.patterns.specs.declared.Pattern.{Pattern}
 use Rattle.patterns.specs.Checked.{setOf}
-use Rattle.automaton.specs.Lists.{implies}
+use Rattle.automaton.specs.Filtering.{implies}
 use Rattle.automaton.specs.Automaton.{stateOf}
-use Rattle.automaton.proofs.Lists.{all-upto-true, all-upto-false}
+use Rattle.automaton.proofs.Membership.{all-upto-true, all-upto-false}
 use Rattle.automaton.proofs.later_unbound.Statement.{statement}
 use Rattle.automaton.proofs.later_unbound.Tie as tie
 

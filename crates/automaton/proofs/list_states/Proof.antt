@@ -6,7 +6,7 @@ use lib.ListN.{length}
 use lib.Pow.{pow-mono}
 use Rattle.numbers.specs.Numbers.{upto}
 use Rattle.patterns.specs.Patterns.{mostVariables}
-use Rattle.automaton.specs.Lists.{collect}
+use Rattle.automaton.specs.Filtering.{collect}
 use Rattle.automaton.specs.Steps.{stepsAt, steps, puts, sinkOf}
 use Rattle.automaton.proofs.Sinks.{from-states, at-few, count-after, puts-turn, puts-end}
 use Rattle.automaton.proofs.list_states.Statement.{statement}

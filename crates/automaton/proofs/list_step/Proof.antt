@@ -1,7 +1,7 @@
 -- `automaton::list_step` meets its contract. Assumes nothing.
 use mathlib.Core.Path.{_∙_, sym, ap}
 use borrow.Author.Needs.{needs}
-use Rattle.automaton.specs.Lists.{keep}
+use Rattle.automaton.specs.Filtering.{keep}
 use Rattle.automaton.specs.Steps.{stepOn, put, sinkOf}
 use Rattle.automaton.proofs.Sinks.{puts-one, puts-none}
 use Rattle.automaton.proofs.list_step.Statement.{statement}

@@ -4,7 +4,7 @@ use Prim.Native.Nat.{ℕ, _+_, _-_, _≤_}
 use native.Mathlib.Omega.{arith}
 use lib.ListN.{length}
 use Rattle.numbers.specs.Numbers.{upto}
-use Rattle.automaton.specs.Lists.{collect}
+use Rattle.automaton.specs.Filtering.{collect}
 use Rattle.automaton.specs.Steps.{stepOn, stepsFrom, puts, sinkOf}
 use Rattle.automaton.proofs.Sinks.{from-variables, on-few, count-after, puts-turn, puts-end}
 use Rattle.automaton.proofs.list_variables.Statement.{statement}

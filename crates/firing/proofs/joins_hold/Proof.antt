@@ -10,7 +10,7 @@ use lib.ListN.{getD}
 use lib.Pow.{pow-pos}
 use Rattle.records.specs.Records.{recordAt}
 use Rattle.patterns.specs.declared.Condition.{Condition}
-use Rattle.automaton.specs.Lists.{all}
+use Rattle.automaton.specs.Filtering.{all}
 use Rattle.slots.specs.Slots.{bindingsIn, countIn, stateIn}
 use Rattle.firing.specs.Plan.{conditionIn}
 use Rattle.firing.specs.Firing.{pairMeets}

@@ -3,7 +3,7 @@ use mathlib.Core.Path.{_≡_, _∙_}
 use mathlib.Core.Bool.{false}
 use Prim.Native.Nat.{ℕ, _+_, _-_, _*_, _≤_}
 use native.Mathlib.Omega.{arith}
-use Rattle.automaton.specs.Lists.{collect}
+use Rattle.automaton.specs.Filtering.{collect}
 use Rattle.slots.specs.Slots.{slotBytes, heldIn, slotAt, slotsAt}
 use Rattle.forward.specs.Flags.{isSet}
 use Rattle.forward.specs.Live.{extendBy}

@@ -8,7 +8,7 @@ use Rattle.patterns.specs.Patterns.{mostVariables}
 use Rattle.firing.proofs.Joins.{weight-le}
 use Rattle.forward.specs.Flags.{isSet}
 use Rattle.forward.specs.Live.{begunBy}
-use Rattle.forward.proofs.Turns.{bit-below}
+use Rattle.forward.proofs.MaskInTurn.{bit-below}
 use Rattle.forward.proofs.Steps.{begun-none, begun-lowest, length-begun}
 use Rattle.forward.proofs.Adding.{Partly, partly-start, partly-turn, partly-all, partly-total}
 use Rattle.forward.proofs.begin.Statement.{statement}

@@ -3,7 +3,7 @@ use mathlib.Core.Path.{sym, _∙_}
 use native.Mathlib.Nat.{lt-of-lt-of-le}
 use native.Mathlib.Omega.{arith}
 use lib.Pow.{pow-mono}
-use Rattle.forward.proofs.Closings.{can-event, can-gap}
+use Rattle.forward.proofs.OneRecord.{can-event, can-gap}
 use borrow.Author.Needs.{needs}
 use Rattle.forward.proofs.can_at.Statement.{statement}
 use Rattle.forward.proofs.can_at.Tie as tie

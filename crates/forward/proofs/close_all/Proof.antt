@@ -6,7 +6,7 @@ use Rattle.slots.specs.Slots.{slotBytes, slotAt, slotsAt}
 use Rattle.forward.specs.Flags.{isSet}
 use Rattle.forward.specs.Live.{linesBy}
 use Rattle.forward.specs.Lines.{Wrote}
-use Rattle.forward.proofs.Longs.{slots-short, short-count}
+use Rattle.forward.proofs.TooLong.{slots-short, short-count}
 use Rattle.forward.proofs.Lines.{wrote-start, wrote-turn}
 use Rattle.forward.proofs.Parts.{part-slot, length-slotAt}
 use Rattle.forward.proofs.close_all.Statement.{statement}

@@ -1,6 +1,6 @@
 -- `forward::count_gone` meets its contract: all at a gap, the late ones at an event. Assumes nothing.
 use mathlib.Core.Path.{sym, _∙_}
-use Rattle.forward.proofs.Gone.{gone-event, gone-gap}
+use Rattle.forward.proofs.ClosingCount.{gone-event, gone-gap}
 use borrow.Author.Needs.{needs}
 use Rattle.forward.proofs.count_gone.Statement.{statement}
 use Rattle.forward.proofs.count_gone.Tie as tie

@@ -4,7 +4,7 @@ use Prim.Native.Nat.{ℕ, _+_, _*_}
 use native.Mathlib.Omega.{arith}
 use lib.ListN.{length}
 use Rattle.slots.specs.Slots.{slotBytes}
-use Rattle.forward.proofs.Longs.{grow-short}
+use Rattle.forward.proofs.TooLong.{grow-short}
 use Rattle.forward.proofs.Memory.{added-over, added-bound, put-part}
 use borrow.Author.Needs.{needs}
 use Rattle.forward.proofs.emit_bound.Statement.{statement}

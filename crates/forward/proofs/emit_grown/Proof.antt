@@ -4,7 +4,7 @@ use native.Mathlib.Omega.{arith}
 use lib.ListN.{length}
 use Rattle.slots.specs.Slots.{countIn, slotAt}
 use Rattle.forward.proofs.Parts.{part-slot, length-slotAt}
-use Rattle.forward.proofs.Longs.{grow-long}
+use Rattle.forward.proofs.TooLong.{grow-long}
 use Rattle.forward.proofs.Memory.{added-long}
 use borrow.Author.Needs.{needs}
 use Rattle.forward.proofs.emit_grown.Statement.{statement}

@@ -4,7 +4,7 @@ use native.Mathlib.Omega.{arith}
 use lib.ListN.{length}
 use Rattle.slots.specs.Slots.{heldIn, slotAt}
 use Rattle.forward.proofs.Parts.{part-slot, length-slotAt}
-use Rattle.forward.proofs.Longs.{slot-short}
+use Rattle.forward.proofs.TooLong.{slot-short}
 use Rattle.forward.proofs.Memory.{part-kept}
 use Rattle.forward.proofs.Steps.{length-fired}
 use Rattle.forward.proofs.Adding.{added-extended, added-kept}

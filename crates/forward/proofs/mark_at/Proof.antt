@@ -1,7 +1,7 @@
 -- `forward::mark_at` meets its contract: past at an event, gap at a gap. Assumes nothing.
 use mathlib.Core.Path.{sym, _∙_}
 use native.Mathlib.Omega.{arith}
-use Rattle.forward.proofs.Gone.{mark-event, mark-gap}
+use Rattle.forward.proofs.ClosingCount.{mark-event, mark-gap}
 use borrow.Author.Needs.{needs}
 use Rattle.forward.proofs.mark_at.Statement.{statement}
 use Rattle.forward.proofs.mark_at.Tie as tie

@@ -1,6 +1,6 @@
 -- `forward::move_on` meets its contract: the readings stand in the other half, or stay where no variable can fire. Assumes nothing.
 use native.Mathlib.Omega.{arith}
-use Rattle.forward.proofs.Moving.{half-in, other-in, start-in, halves-apart, few-stand, moved-idle, moved-over}
+use Rattle.forward.proofs.Halves.{half-in, other-in, start-in, halves-apart, few-stand, moved-idle, moved-over}
 use borrow.Author.Needs.{needs}
 use Rattle.forward.proofs.move_on.Statement.{statement}
 use Rattle.forward.proofs.move_on.Tie as tie

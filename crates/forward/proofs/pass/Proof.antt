@@ -6,9 +6,9 @@ use lib.ListN.{length}
 use Rattle.firing.proofs.Plans.{sound-plan, classed-plan}
 use Rattle.forward.specs.Flags.{isSet}
 use Rattle.forward.proofs.Flags.{flag-set, flag-clear}
-use Rattle.forward.proofs.Moving.{start-in}
-use Rattle.forward.proofs.Rounds.{pow-some}
-use Rattle.forward.proofs.Going.{Going, going-start, going-short, going-begun, going-gone, left-ready, left-stands, left-short, front-short, stop-11, stop-9, stop-10, going-on, end-11, end-ran, ran-refused}
+use Rattle.forward.proofs.Halves.{start-in}
+use Rattle.forward.proofs.HeldByRule.{pow-some}
+use Rattle.forward.proofs.AllRecords.{Going, going-start, going-short, going-begun, going-gone, left-ready, left-stands, left-short, front-short, stop-11, stop-9, stop-10, going-on, end-11, end-ran, ran-refused}
 use Rattle.forward.proofs.pass.Statement.{statement}
 use Rattle.forward.proofs.pass.Tie as tie
 

@@ -9,7 +9,7 @@ use Rattle.firing.proofs.Joins.{weight-le}
 use Rattle.forward.specs.Flags.{isSet}
 use Rattle.forward.specs.Live.{firedBy}
 use Rattle.forward.proofs.Memory.{slot-kept}
-use Rattle.forward.proofs.Turns.{bit-below}
+use Rattle.forward.proofs.MaskInTurn.{bit-below}
 use Rattle.forward.proofs.Steps.{fired-none, fired-lowest, length-fired}
 use Rattle.forward.proofs.Adding.{Partly, partly-start, partly-turn, partly-all, partly-total}
 use Rattle.forward.proofs.Fits.{fit-kept}

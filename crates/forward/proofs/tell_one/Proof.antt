@@ -4,7 +4,7 @@ use Prim.Native.Nat.{_+_, _*_}
 use native.Mathlib.Omega.{arith}
 use mathlib.Core.List.{[], _∷_}
 use lib.ListN.{length}
-use Rattle.rule.specs.Lists.{line}
+use Rattle.rule.specs.Computed.{line}
 use Rattle.slots.specs.Slots.{heldIn}
 use Rattle.slots.proofs.Slots.{length-heldIn}
 use Rattle.forward.specs.Flags.{isSet}

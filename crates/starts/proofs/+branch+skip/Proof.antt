@@ -7,7 +7,7 @@ use mathlib.Core.Path.{_≡_, refl, _∙_}
 use lib.ListN.{length}
 use Rattle.starts.specs.Sinks.{Sink, sinkOf}
 use Rattle.starts.specs.Skips.{Firing, Branched}
-use Rattle.starts.proofs.Turns.{rest-less}
+use Rattle.starts.proofs.MaskInTurn.{rest-less}
 use Rattle.starts.proofs.Skips.{branch-done, lowest-taking, branch-takes, rest-firing, grown-ready, grown-closes, skip-closes, skip-notes, next-firing, skip-branches}
 use borrow.Fn.Kinds.{In}
 use borrow.Fn.PlainCycle.{Measures, is, falls, and}

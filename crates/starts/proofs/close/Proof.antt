@@ -2,7 +2,7 @@
 use mathlib.Core.Path.{sym, ap, _∙_}
 use Prim.Native.Nat.{ℕ, _-_, _^_}
 use Rattle.numbers.specs.Bits.{within}
-use Rattle.rule.proofs.Found.{close-full, close-part}
+use Rattle.rule.proofs.SkipBranch.{close-full, close-part}
 use Rattle.slots.specs.Slots.{heldIn}
 use Rattle.starts.specs.Sinks.{sinkOf, emits}
 use Rattle.starts.proofs.Readings.{full-is}

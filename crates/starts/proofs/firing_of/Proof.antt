@@ -11,7 +11,7 @@ use Rattle.patterns.specs.Patterns.{mostVariables}
 use Rattle.slots.specs.Slots.{heldIn}
 use Rattle.firing.specs.Firing.{laterBy}
 use Rattle.starts.specs.Skips.{agreeingBy}
-use Rattle.starts.proofs.Turns.{low-bits, rest-less}
+use Rattle.starts.proofs.MaskInTurn.{low-bits, rest-less}
 use Rattle.starts.proofs.Masks.{agreeing-none, agreeing-bound, agreeing-lowest}
 use borrow.Author.Needs.{needs}
 use Rattle.starts.proofs.firing_of.Statement.{statement}

@@ -9,18 +9,18 @@ use native.Mathlib.Decide.{ℕ-discrete, decLe}
 use lib.ListN.{length}
 use borrow.Author.Tests.{leb-true}
 use Rattle.patterns.specs.declared.Pattern.{Pattern}
-use Rattle.automaton.specs.Lists.{collect}
+use Rattle.automaton.specs.Filtering.{collect}
 use Rattle.rule.specs.Rule.{Block, Binding, Reading, Line, Event, InWindow, Closes, gap, past, end, fires, startOf, timeAt, Smaller, Before, sooner, smaller, TimesNeverFall}
-use Rattle.rule.specs.Steps.{Live, Reported, IsReport}
-use Rattle.rule.specs.Lists.{isEvent, inWindow, only, fired, extend, closing, grow, begin, startByStart, report}
-use Rattle.automaton.proofs.Lists.{decide, mem-collect, collect-mem}
+use Rattle.rule.specs.Growth.{Live, Reported, IsReport}
+use Rattle.rule.specs.Computed.{isEvent, inWindow, only, fired, extend, closing, grow, begin, startByStart, report}
+use Rattle.automaton.proofs.Membership.{decide, mem-collect, collect-mem}
 use Rattle.automaton.proofs.Ordered.{Ordered, ordered-append}
-use Rattle.rule.proofs.Lists.{mem-only, only-mem, mem-or-else, or-else-mem, or-else-self}
-use Rattle.rule.proofs.Heart.{event-yes, event-no, yes-event, mem-fired, fired-mem, started, extended, in-extend}
-use Rattle.rule.proofs.Order.{ordered-only, fired-ordered, extend-ordered, smaller-left, smaller-right}
+use Rattle.rule.proofs.OnlyOrElse.{mem-only, only-mem, mem-or-else, or-else-mem, or-else-self}
+use Rattle.rule.proofs.LiveReadings.{event-yes, event-no, yes-event, mem-fired, fired-mem, started, extended, in-extend}
+use Rattle.rule.proofs.LiveOrder.{ordered-only, fired-ordered, extend-ordered, smaller-left, smaller-right}
 use Rattle.rule.proofs.Report.{Sooner, Ends, mem-closing, closing-mem, closing-ordered, live-in, event-in, report-is}
-use Rattle.rule.proofs.Tree.{From, from-close, from-branch, from-start, from-more, oldest-first-append, start-append}
-use Rattle.rule.proofs.Unique.{one-is-report}
+use Rattle.rule.proofs.StartByStartList.{From, from-close, from-branch, from-start, from-more, oldest-first-append, start-append}
+use Rattle.rule.proofs.OneReport.{one-is-report}
 
 -- what goes on from two readings stands in their order
 before-more : (t u : Reading) (a b : Binding) (r s : Reading) → Before (a ∷ r) (b ∷ s) → Before (t ++ (a ∷ r)) (u ++ (b ∷ s))

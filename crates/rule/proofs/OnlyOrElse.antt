@@ -4,8 +4,8 @@ use mathlib.Core.Path.{_≡_, refl, sym, ap, ap₂, subst, _∙_}
 use mathlib.Core.Logic.{_⊎_, inl, inr}
 use mathlib.Core.Bool.{Bool, true, false, _||_, false≢true}
 use mathlib.Core.List.{List, [], _∷_, _++_, map, append-assoc, List·Memᴰ, List·Memᴰ·head, List·Memᴰ·tail, List·Memᴰ·not-nil, List·Memᴰ·eq-of-singleton}
-use Rattle.automaton.specs.Lists.{collect}
-use Rattle.rule.specs.Lists.{only, orElse, any}
+use Rattle.automaton.specs.Filtering.{collect}
+use Rattle.rule.specs.Computed.{only, orElse, any}
 
 module _ {A : Type 0} where
   pub mem-only : (b : Bool) {a : A} {l : List A} → List·Memᴰ a (only b l) → (b ≡ true) × List·Memᴰ a l

@@ -12,15 +12,15 @@ use lib.Dec.{ltb, eqb}
 use borrow.Author.Tests.{ltb-true, lt-ltb, eqb-true}
 use Rattle.patterns.specs.declared.Pattern.{Pattern}
 use Rattle.patterns.specs.Checked.{setOf, InOrder}
-use Rattle.automaton.specs.Lists.{implies, all}
+use Rattle.automaton.specs.Filtering.{implies, all}
 use Rattle.automaton.specs.Automaton.{leaves, marked, variablesOf}
 use Rattle.rule.specs.Rule.{Block, Binding, Reading, fires, inOrder, binds, timeAt, TimesNeverFall}
-use Rattle.rule.specs.Steps.{Partial}
+use Rattle.rule.specs.Growth.{Partial}
 use Rattle.rule.specs.Promises.{TooLong, mostBindings}
-use Rattle.automaton.proofs.Lists.{both, decide, all-mem}
+use Rattle.automaton.proofs.Membership.{both, decide, all-mem}
 use Rattle.rule.proofs.Report.{event-in}
 use Rattle.rule.proofs.Written.{partial-to}
-use Rattle.rule.proofs.Sense.{step-fires, earlier, below, given, mem-binds, set-order, variable-in}
+use Rattle.rule.proofs.EveryReading.{step-fires, earlier, below, given, mem-binds, set-order, variable-in}
 
 module _ (p : Pattern) (B : Block) where
   pub long-long : (r : Reading) → Partial p B r → suc mostBindings ≤ length r → (j : ℕ) × TooLong p B j

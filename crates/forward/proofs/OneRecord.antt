@@ -18,13 +18,13 @@ use Rattle.records.specs.Records.{recordCount, recordsOf}
 use Rattle.records.proofs.Listed.{length-records}
 use Rattle.patterns.specs.declared.Pattern.{Pattern}
 use Rattle.patterns.specs.Checked.{InOrder}
-use Rattle.automaton.specs.Lists.{filter, collect}
-use Rattle.automaton.proofs.Lists.{mem-collect}
+use Rattle.automaton.specs.Filtering.{filter, collect}
+use Rattle.automaton.proofs.Membership.{mem-collect}
 use Rattle.rule.specs.Rule.{Block, Reading, TimesNeverFall, lastOf, gapMark, pastMark}
 use Rattle.rule.specs.Promises.{mostBindings}
-use Rattle.rule.specs.Lists.{isEvent, inWindow, only, any, extend, fired, step, live, lines, closing, isMet}
-use Rattle.rule.proofs.Lists.{mem-only, mem-or-else, any-mem}
-use Rattle.rule.proofs.Heart.{mem-fired, live-sound}
+use Rattle.rule.specs.Computed.{isEvent, inWindow, only, any, extend, fired, step, live, lines, closing, isMet}
+use Rattle.rule.proofs.OnlyOrElse.{mem-only, mem-or-else, any-mem}
+use Rattle.rule.proofs.LiveReadings.{mem-fired, live-sound}
 use Rattle.slots.specs.Slots.{Held, slotBytes, holding, heldIn, slotAt, slotsAt}
 use Rattle.slots.proofs.Slots.{length-slotsAt, getD-slotsAt, slotsAt-drop}
 use Rattle.firing.specs.Plan.{IsPlan}
@@ -32,9 +32,9 @@ use Rattle.firing.specs.Firing.{canBy}
 use Rattle.forward.specs.Live.{unbound, stepBy, isLong, long, isEventBy, canAt, markBy, isLate, linesBy}
 use Rattle.forward.specs.Memory.{firstInTime, goneBy}
 use Rattle.forward.proofs.Steps.{step-idle}
-use Rattle.forward.proofs.Gone.{lateAt, gone-event, gone-gap, mark-event, mark-gap}
-use Rattle.forward.proofs.Lists.{getD-mem, getD-map, filter-same, any-same, any-map, map-take, map-drop, front-take, front-drop}
-use Rattle.forward.proofs.Rounds.{lines-held, step-held, event-held, late-is, live-late}
+use Rattle.forward.proofs.ClosingCount.{lateAt, gone-event, gone-gap, mark-event, mark-gap}
+use Rattle.forward.proofs.MapFilter.{getD-mem, getD-map, filter-same, any-same, any-map, map-take, map-drop, front-take, front-drop}
+use Rattle.forward.proofs.HeldByRule.{lines-held, step-held, event-held, late-is, live-late}
 
 slots-take : (work : List ℕ) (at m n : ℕ) → slotsAt work at m ≡ take m (slotsAt work at (m + n))
 unfolding slotsAt

@@ -11,20 +11,20 @@ use borrow.Author.Tests.{ltb-true, ltb-false, le-leb, lt-leb}
 use Rattle.numbers.specs.Numbers.{upto}
 use Rattle.numbers.proofs.Cases.{by-test, by-order}
 use Rattle.patterns.specs.declared.Pattern.{Pattern}
-use Rattle.automaton.specs.Lists.{keep, filter, collect}
+use Rattle.automaton.specs.Filtering.{keep, filter, collect}
 use Rattle.automaton.specs.Automaton.{variablesOf}
-use Rattle.automaton.proofs.Lists.{clash, mem-filter}
+use Rattle.automaton.proofs.Membership.{clash, mem-filter}
 use Rattle.rule.specs.Rule.{Block, Binding, Reading, Line, fires, isFull, startOf, timeAt, pastMark, gapMark, endMark}
-use Rattle.rule.specs.Steps.{IsReport}
+use Rattle.rule.specs.Growth.{IsReport}
 use Rattle.rule.specs.Promises.{mostBindings}
-use Rattle.rule.specs.Lists.{isEvent, inWindow, only, orElse, fired, extend, line, lines, closing, grow, begin, startByStart}
+use Rattle.rule.specs.Computed.{isEvent, inWindow, only, orElse, fired, extend, line, lines, closing, grow, begin, startByStart}
 use Rattle.rule.specs.Starts.Found.{closed, over}
 use Rattle.rule.specs.Starts.{Found, isPast, until, markAt, markOf, withBinding, anyFires, inTurn, close, skipUntil, branchUntil, startFound, foundFrom, foundAll, linesOf}
-use Rattle.rule.proofs.Lists.{collect-same, collect-map}
-use Rattle.rule.proofs.Heart.{fires-variable, event-yes, mem-fired, fired-mem}
+use Rattle.rule.proofs.OnlyOrElse.{collect-same, collect-map}
+use Rattle.rule.proofs.LiveReadings.{fires-variable, event-yes, mem-fired, fired-mem}
 use Rattle.rule.proofs.Report.{event-in}
-use Rattle.rule.proofs.Depth.{start-by-start-is}
-use Rattle.rule.proofs.Found.{until-bound, until-after, before-until, at-until, stays-open, fires-any, any-fires, turn-mem, skip-passes, skip-closes, skip-takes, skip-over, start-event, start-gap, lines-append}
+use Rattle.rule.proofs.StartByStartReport.{start-by-start-is}
+use Rattle.rule.proofs.SkipBranch.{until-bound, until-after, before-until, at-until, stays-open, fires-any, any-fires, turn-mem, skip-passes, skip-closes, skip-takes, skip-over, start-event, start-gap, lines-append}
 
 -- no reading would take a 33rd binding
 abbrev pub NoneOver : List Found → Type 0

@@ -9,7 +9,7 @@ use native.Mathlib.Decide.{ℕ-discrete}
 use lib.ListN.{length}
 use Rattle.numbers.specs.Numbers.{upto}
 use Rattle.numbers.proofs.Cases.{by-test}
-use Rattle.automaton.specs.Lists.{all, keep, filter, collect}
+use Rattle.automaton.specs.Filtering.{all, keep, filter, collect}
 
 pub both : {a b : Bool} → a && b ≡ true → (a ≡ true) × (b ≡ true)
 both {a} {b} h = go a b h

@@ -8,7 +8,7 @@ use borrow.Author.Tests.{le-ltb, lt-ltb, ltb-false}
 use lib.ListN.{length}
 use Rattle.numbers.proofs.Cases.{by-order, neither}
 use Rattle.rule.specs.Promises.{mostBindings}
-use Rattle.rule.specs.Lists.{any}
+use Rattle.rule.specs.Computed.{any}
 use Rattle.slots.specs.Slots.{Held, slotBytes, countIn, heldIn, grow, slotAt, slotsAt}
 use Rattle.slots.proofs.Slots.{length-heldIn}
 use Rattle.forward.specs.Live.{isLong, long}

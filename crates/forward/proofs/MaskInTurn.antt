@@ -14,11 +14,11 @@ use Rattle.numbers.specs.Bits.{bit, IsLowestBit}
 use Rattle.numbers.proofs.Cases.{by-order}
 use Rattle.numbers.proofs.Bits.{bit-zero, bit-high}
 use Rattle.numbers.proofs.Upto.{length-upto}
-use Rattle.automaton.specs.Lists.{keep, filter}
-use Rattle.automaton.proofs.Lists.{clash}
+use Rattle.automaton.specs.Filtering.{keep, filter}
+use Rattle.automaton.proofs.Membership.{clash}
 use Rattle.firing.proofs.Joins.{less-bit}
 use Rattle.forward.proofs.Lines.{map-append}
-use Rattle.forward.proofs.Lists.{filter-same, filter-none}
+use Rattle.forward.proofs.MapFilter.{filter-same, filter-none}
 
 -- ## Of the numbers from k on
 

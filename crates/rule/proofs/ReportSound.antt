@@ -15,15 +15,15 @@ use Rattle.patterns.specs.declared.Condition.{Condition}
 use Rattle.patterns.specs.declared.Pattern.{Pattern}
 use Rattle.patterns.specs.Checked.{setOf, isGroup, conditionAt, InOrder}
 use Rattle.patterns.specs.Comparison.{holds, comparedWith}
-use Rattle.automaton.specs.Lists.{keep, filter}
+use Rattle.automaton.specs.Filtering.{keep, filter}
 use Rattle.automaton.specs.Automaton.{State, opens, loops, conditions}
-use Rattle.automaton.proofs.Lists.{both, clash, all-mem, mem-map, upto-mem, upto-below}
+use Rattle.automaton.proofs.Membership.{both, clash, all-mem, mem-map, upto-mem, upto-below}
 use Rattle.numbers.proofs.Cases.{neither}
 use Rattle.rule.specs.Rule.{Block, Binding, Reading, Line, Event, Report, recordIn, timeAt, startOf, lastOf, binds, isFull, TimesNeverFall}
-use Rattle.rule.specs.Steps.{Partial, Live}
+use Rattle.rule.specs.Growth.{Partial, Live}
 use Rattle.rule.specs.Calls.{inputAnswer, patternIn, blockIn}
-use Rattle.rule.proofs.Sense.{below, constant-holds, pair-holds, opens-or-loops, opens-new, bound-span, duration, variable-in}
-use Rattle.rule.proofs.Fit.{bound-in, set-order-time}
+use Rattle.rule.proofs.EveryReading.{below, constant-holds, pair-holds, opens-or-loops, opens-new, bound-span, duration, variable-in}
+use Rattle.rule.proofs.ReadingBounds.{bound-in, set-order-time}
 use Rattle.rule.proofs.Report.{spans}
 use Rattle.rule.proofs.Written.{written-reported}
 use Rattle.rule.proofs.Inputs.{input-in-order, times-never-fall}

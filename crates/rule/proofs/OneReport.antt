@@ -6,7 +6,7 @@ use Prim.Native.Nat.{ℕ}
 use native.Mathlib.Omega.{arith}
 use Rattle.patterns.specs.declared.Pattern.{Pattern}
 use Rattle.rule.specs.Rule.{Block, Binding, Reading, Line, Rising, Report, Smaller, here, there, Before, sooner, smaller}
-use Rattle.rule.specs.Steps.{IsReport}
+use Rattle.rule.specs.Growth.{IsReport}
 use Rattle.automaton.proofs.Ordered.{ordered-unique}
 
 smaller-asym : {l m : Reading} → Smaller l m → ¬ Smaller m l

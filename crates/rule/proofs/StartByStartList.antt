@@ -9,8 +9,8 @@ use lib.ListN.{length}
 use lib.Seq.{append-snoc}
 use Rattle.patterns.specs.declared.Pattern.{Pattern}
 use Rattle.rule.specs.Rule.{Block, Binding, Reading, Line, Event, InWindow, Closes, gap, past, end, fires, startOf, oldestFirst}
-use Rattle.rule.specs.Steps.{Partial, Passed, Taken, Live, Reported}
-use Rattle.automaton.proofs.Lists.{clash}
+use Rattle.rule.specs.Growth.{Partial, Passed, Taken, Live, Reported}
+use Rattle.automaton.proofs.Membership.{clash}
 use Rattle.rule.proofs.Report.{event-in}
 
 -- a list is empty or has an oldest binding

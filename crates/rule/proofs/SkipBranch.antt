@@ -12,16 +12,16 @@ use Rattle.numbers.specs.Numbers.{upto, first}
 use Rattle.numbers.proofs.Cases.{by-test, by-order, neither, not-not}
 use Rattle.numbers.proofs.First.{first-bound, first-at, first-none, first-fails, first-passes}
 use Rattle.patterns.specs.declared.Pattern.{Pattern}
-use Rattle.automaton.specs.Lists.{keep, filter, collect}
+use Rattle.automaton.specs.Filtering.{keep, filter, collect}
 use Rattle.automaton.specs.Automaton.{variablesOf}
-use Rattle.automaton.proofs.Lists.{both, clash, upto-mem, mem-filter, filter-mem, mem-collect, collect-mem}
+use Rattle.automaton.proofs.Membership.{both, clash, upto-mem, mem-filter, filter-mem, mem-collect, collect-mem}
 use Rattle.rule.specs.Rule.{Block, Reading, Line, fires, isFull, pastMark, endMark, gapMark, pack, packBindings, packed}
 use Rattle.rule.specs.Promises.{mostBindings}
-use Rattle.rule.specs.Lists.{isEvent, only}
+use Rattle.rule.specs.Computed.{isEvent, only}
 use Rattle.rule.specs.Starts.Found.{closed, over}
 use Rattle.rule.specs.Starts.{Found, isPast, closesAt, until, markAt, markOf, anyFires, inTurn, close, skipFound, skipUntil, branchUntil, NextFire, startFound, foundFrom, foundAll, linesOf, leastOver}
-use Rattle.rule.proofs.Lists.{any-mem, mem-any}
-use Rattle.rule.proofs.Heart.{fires-variable, event-yes}
+use Rattle.rule.proofs.OnlyOrElse.{any-mem, mem-any}
+use Rattle.rule.proofs.LiveReadings.{fires-variable, event-yes}
 use Rattle.rule.proofs.Report.{event-in}
 
 -- one record less is left

@@ -11,16 +11,16 @@ use lib.Dec.{eqb}
 use borrow.Author.Tests.{ltb-true, lt-ltb, eqb-true, eq-eqb}
 use Rattle.patterns.specs.declared.Pattern.{Pattern}
 use Rattle.rule.specs.Rule.{Block, Reading, pack, lastOf, TimesNeverFall}
-use Rattle.rule.specs.Steps.{Partial, Live, Kept}
+use Rattle.rule.specs.Growth.{Partial, Live, Kept}
 use Rattle.rule.specs.Promises.{Outcome, LiveCount, IsPeak, Meets, refusal, success, Forward, refuses, succeeds}
-use Rattle.rule.specs.Lists.{live, closed, report, any, isMet, peak, scan, forward}
-use Rattle.automaton.proofs.Lists.{both, clash}
-use Rattle.rule.proofs.Count.{count, one-count}
-use Rattle.rule.proofs.Heart.{live-sound, live-complete, kept-new}
+use Rattle.rule.specs.Computed.{live, closed, report, any, isMet, peak, scan, forward}
+use Rattle.automaton.proofs.Membership.{both, clash}
+use Rattle.rule.proofs.LiveCounts.{count, one-count}
+use Rattle.rule.proofs.LiveReadings.{live-sound, live-complete, kept-new}
 use Rattle.rule.proofs.Report.{closed-is, report-is}
-use Rattle.rule.proofs.Sense.{never-twice}
+use Rattle.rule.proofs.EveryReading.{never-twice}
 use Rattle.rule.proofs.Written.{partial-of, partial-to, report-written}
-use Rattle.rule.proofs.Unique.{one-report}
+use Rattle.rule.proofs.OneReport.{one-report}
 
 module _ {A : Type 0} where
   any-yes : (f : A → Bool) (l : List A) → any f l ≡ true → (a : A) × List·Memᴰ a l × (f a ≡ true)

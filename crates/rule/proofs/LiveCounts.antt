@@ -7,13 +7,13 @@ use lib.ListN.{length}
 use Rattle.patterns.specs.declared.Pattern.{Pattern}
 use Rattle.rule.specs.Rule.{Block, Reading, Before, TimesNeverFall}
 use Rattle.rule.specs.Promises.{Distinct, LiveCount}
-use Rattle.rule.specs.Lists.{live}
+use Rattle.rule.specs.Computed.{live}
 use Rattle.automaton.proofs.Ordered.{Ordered}
-use Rattle.rule.proofs.Heart.{live-sound, live-complete}
-use Rattle.rule.proofs.Order.{live-ordered}
+use Rattle.rule.proofs.LiveReadings.{live-sound, live-complete}
+use Rattle.rule.proofs.LiveOrder.{live-ordered}
 use Rattle.rule.proofs.Report.{live-in}
 use Rattle.rule.proofs.Written.{live-written, live-after}
-use Rattle.rule.proofs.Unique.{before-asym}
+use Rattle.rule.proofs.OneReport.{before-asym}
 
 -- ## A list of distinct readings that all stand in another is no longer than it
 

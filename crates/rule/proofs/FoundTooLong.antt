@@ -10,19 +10,19 @@ use borrow.Author.Tests.{ltb-false, le-ltb}
 use Rattle.numbers.specs.Numbers.{upto}
 use Rattle.numbers.proofs.Cases.{by-test, by-order}
 use Rattle.patterns.specs.declared.Pattern.{Pattern}
-use Rattle.automaton.proofs.Lists.{clash, mem-collect, collect-mem, upto-mem}
+use Rattle.automaton.proofs.Membership.{clash, mem-collect, collect-mem, upto-mem}
 use Rattle.rule.specs.Rule.{Block, Binding, Reading, Event, InWindow, fires, startOf, lastOf, timeAt, TimesNeverFall, isFull}
-use Rattle.rule.specs.Steps.{Partial, Kept, Taken, Live}
+use Rattle.rule.specs.Growth.{Partial, Kept, Taken, Live}
 use Rattle.rule.specs.Promises.{TooLong, mostBindings}
-use Rattle.rule.specs.Lists.{isEvent, fired}
+use Rattle.rule.specs.Computed.{isEvent, fired}
 use Rattle.rule.specs.Starts.Found.{closed, over}
 use Rattle.rule.specs.Starts.{Found, isPast, closesAt, until, markOf, withBinding, anyFires, close, skipUntil, branchUntil, startFound, foundFrom, foundAll, leastOver}
-use Rattle.rule.proofs.Lists.{mem-only, only-mem, or-else-mem, or-else-self}
-use Rattle.rule.proofs.Heart.{fires-variable, event-yes, yes-event, mem-fired, fired-mem, started, extended, in-extend}
-use Rattle.rule.proofs.Order.{start-le}
+use Rattle.rule.proofs.OnlyOrElse.{mem-only, only-mem, or-else-mem, or-else-self}
+use Rattle.rule.proofs.LiveReadings.{fires-variable, event-yes, yes-event, mem-fired, fired-mem, started, extended, in-extend}
+use Rattle.rule.proofs.LiveOrder.{start-le}
 use Rattle.rule.proofs.Report.{spans, event-in}
 use Rattle.rule.proofs.Written.{partial-of, partial-to}
-use Rattle.rule.proofs.Found.{until-after, before-until, at-until, stays-open, fires-any, any-fires, none-fires, mem-turn, turn-mem, skip-passes, skip-closes, skip-takes, skip-over, skip-to, least-none}
+use Rattle.rule.proofs.SkipBranch.{until-after, before-until, at-until, stays-open, fires-any, any-fires, none-fires, mem-turn, turn-mem, skip-passes, skip-closes, skip-takes, skip-over, skip-to, least-none}
 
 module _ (p : Pattern) (B : Block) where
   abbrev skips : ℕ → ℕ → Reading → List Found

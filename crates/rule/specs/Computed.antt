@@ -7,7 +7,7 @@ use lib.ListN.{length}
 use lib.Dec.{leb, ltb, eqb}
 use Rattle.records.specs.Records.{eventKind}
 use Rattle.patterns.specs.declared.Pattern.{Pattern}
-use Rattle.automaton.specs.Lists.{filter, collect}
+use Rattle.automaton.specs.Filtering.{filter, collect}
 use Rattle.automaton.specs.Automaton.{variablesOf}
 use Rattle.rule.specs.Rule.{Block, Reading, Line, recordIn, timeAt, startOf, lastOf, fires, isFull, pastMark, endMark, gapMark, pack}
 use Rattle.rule.specs.Promises.{Outcome, mostBindings, refusal, success}

@@ -13,13 +13,13 @@ use Rattle.patterns.specs.declared.Condition.{Condition}
 use Rattle.patterns.specs.declared.Pattern.{Pattern}
 use Rattle.patterns.specs.Checked.{setOf, isGroup}
 use Rattle.patterns.specs.Comparison.{holds}
-use Rattle.automaton.specs.Lists.{all, filter, implies}
+use Rattle.automaton.specs.Filtering.{all, filter, implies}
 use Rattle.automaton.specs.Automaton.{leaves, opens, loops, carries, conditions}
 use Rattle.rule.specs.Rule.{Block, Binding, Reading, PartialReading, startOf, InWindow, timeAt, recordIn, fires, choices, passes, inOrder, allowed, binds, TimesNeverFall}
-use Rattle.rule.specs.Steps.{Partial}
+use Rattle.rule.specs.Growth.{Partial}
 use Rattle.rule.specs.Promises.{Twice}
-use Rattle.automaton.proofs.Lists.{both, clash, all-mem, filter-mem, map-mem, upto-mem}
-use Rattle.rule.proofs.Order.{start-le}
+use Rattle.automaton.proofs.Membership.{both, clash, all-mem, filter-mem, map-mem, upto-mem}
+use Rattle.rule.proofs.LiveOrder.{start-le}
 
 either : (a b : Bool) → a || b ≡ true → (a ≡ true) ⊎ (b ≡ true)
 either true b h = inl refl

@@ -13,10 +13,10 @@ use Rattle.numbers.specs.Bits.{bit, mask, IsLowestBit}
 use Rattle.numbers.proofs.Cases.{by-test, by-order}
 use Rattle.numbers.proofs.Bits.{bit-zero, bit-high, mask-inside, mask-of-bits, mask-without}
 use Rattle.patterns.specs.Patterns.{mostVariables}
-use Rattle.automaton.specs.Lists.{keep, filter, collect}
-use Rattle.automaton.proofs.Lists.{clash}
+use Rattle.automaton.specs.Filtering.{keep, filter, collect}
+use Rattle.automaton.proofs.Membership.{clash}
 use Rattle.rule.specs.Starts.{Found, inTurn}
-use Rattle.rule.proofs.Found.{turn-end, turn-to, turn-takes}
+use Rattle.rule.proofs.SkipBranch.{turn-end, turn-to, turn-takes}
 
 filter-same : (f g : ℕ → Bool) (n v : ℕ) → ((u : ℕ) → v ≤ u → u < v + n → f u ≡ g u) → filter f (upto v n) ≡ filter g (upto v n)
 unfolding upto filter

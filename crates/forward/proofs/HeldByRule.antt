@@ -19,17 +19,17 @@ use Rattle.records.proofs.Listed.{length-records, record-listed}
 use Rattle.patterns.specs.declared.Pattern.{Pattern}
 use Rattle.patterns.specs.Patterns.{mostVariables}
 use Rattle.patterns.specs.Checked.{InOrder}
-use Rattle.automaton.specs.Lists.{filter, collect}
-use Rattle.automaton.proofs.Lists.{mem-filter, upto-below}
+use Rattle.automaton.specs.Filtering.{filter, collect}
+use Rattle.automaton.proofs.Membership.{mem-filter, upto-below}
 use Rattle.automaton.proofs.All.{all-upto}
 use Rattle.automaton.proofs.Ordered.{Ordered}
 use Rattle.rule.specs.Rule.{Block, Binding, Reading, TimesNeverFall, behindEnd, recordIn, timeAt, startOf, lastOf, binds, fires, isFull, Before, sooner, smaller}
-use Rattle.rule.specs.Steps.{Partial, Live}
-use Rattle.rule.specs.Lists.{isEvent, inWindow, only, orElse, fired, extend, step, live, line, lines}
-use Rattle.rule.proofs.Lists.{collect-same, collect-map}
-use Rattle.rule.proofs.Heart.{live-sound}
-use Rattle.rule.proofs.Order.{live-ordered, start-lt}
-use Rattle.rule.proofs.Sense.{variable-in, below}
+use Rattle.rule.specs.Growth.{Partial, Live}
+use Rattle.rule.specs.Computed.{isEvent, inWindow, only, orElse, fired, extend, step, live, line, lines}
+use Rattle.rule.proofs.OnlyOrElse.{collect-same, collect-map}
+use Rattle.rule.proofs.LiveReadings.{live-sound}
+use Rattle.rule.proofs.LiveOrder.{live-ordered, start-lt}
+use Rattle.rule.proofs.EveryReading.{variable-in, below}
 use Rattle.slots.specs.Slots.{Held, holding, grow}
 use Rattle.slots.proofs.Holding.{holding-grow, holding-bit}
 use Rattle.firing.specs.Plan.{IsPlan}
@@ -37,7 +37,7 @@ use Rattle.firing.specs.Firing.{ownHolds, canBy, leavesBy, agreesBy, firesBy, R
 use Rattle.firing.proofs.FiresBy.{fires-by}
 use Rattle.forward.specs.Live.{firedBy, extendBy, unbound, stepBy, isEventBy, isLate, isFullBy, linesBy}
 use Rattle.forward.proofs.Lines.{map-append}
-use Rattle.forward.proofs.Lists.{filter-upto, filter-same, map-same, map-filter, map-collect, map-or-else, collect-only}
+use Rattle.forward.proofs.MapFilter.{filter-upto, filter-same, map-same, map-filter, map-collect, map-or-else, collect-only}
 
 -- ## Full readings
 

@@ -6,15 +6,15 @@ use mathlib.Core.List.{List, [], _∷_, _++_, List·Memᴰ, List·Memᴰ·head, 
 use Prim.Native.Nat.{ℕ, zero, suc, _≤_, _<_}
 use native.Mathlib.Omega.{arith}
 use Rattle.patterns.specs.declared.Pattern.{Pattern}
-use Rattle.automaton.specs.Lists.{filter, collect}
+use Rattle.automaton.specs.Filtering.{filter, collect}
 use Rattle.automaton.specs.Automaton.{variablesOf}
 use Rattle.rule.specs.Rule.{Block, Binding, Reading, Smaller, here, there, Before, sooner, smaller, startOf, lastOf, oldestFirst, fires}
-use Rattle.rule.specs.Steps.{Partial, Live}
-use Rattle.rule.specs.Lists.{isEvent, inWindow, fired, orElse, only, extend, step, live}
-use Rattle.automaton.proofs.Lists.{mem-collect}
+use Rattle.rule.specs.Growth.{Partial, Live}
+use Rattle.rule.specs.Computed.{isEvent, inWindow, fired, orElse, only, extend, step, live}
+use Rattle.automaton.proofs.Membership.{mem-collect}
 use Rattle.automaton.proofs.Ordered.{Ordered, ordered-append, ordered-filter, ordered-map, ordered-upto}
-use Rattle.rule.proofs.Lists.{mem-only, mem-or-else}
-use Rattle.rule.proofs.Heart.{mem-fired, live-sound}
+use Rattle.rule.proofs.OnlyOrElse.{mem-only, mem-or-else}
+use Rattle.rule.proofs.LiveReadings.{mem-fired, live-sound}
 
 -- ## Lists that are there by a flag, or have an entry to stand in for them
 

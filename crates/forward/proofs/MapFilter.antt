@@ -11,9 +11,9 @@ use lib.Seq.{take-nil, drop-nil}
 use Rattle.numbers.specs.Numbers.{upto}
 use Rattle.numbers.proofs.Cases.{by-test}
 use Rattle.numbers.proofs.Upto.{upto-snoc}
-use Rattle.automaton.specs.Lists.{keep, filter, collect}
+use Rattle.automaton.specs.Filtering.{keep, filter, collect}
 use Rattle.automaton.proofs.Ordered.{Ordered}
-use Rattle.rule.specs.Lists.{only, orElse, any}
+use Rattle.rule.specs.Computed.{only, orElse, any}
 use Rattle.forward.proofs.Lines.{filter-append, map-append}
 
 module _ {A : Type 0} where

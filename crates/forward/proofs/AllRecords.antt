@@ -19,11 +19,11 @@ use Rattle.records.specs.Blocks.{refused}
 use Rattle.records.proofs.Listed.{length-records}
 use Rattle.patterns.specs.declared.Pattern.{Pattern}
 use Rattle.rule.specs.Rule.{Block, Reading, Line, pack, endMark, lastOf, startOf}
-use Rattle.rule.specs.Steps.{Partial}
+use Rattle.rule.specs.Growth.{Partial}
 use Rattle.rule.specs.Promises.{mostBindings, refusedWith, success}
-use Rattle.rule.specs.Lists.{isEvent, live, lines, closing, closed, report, isMet, peak, scan, forward, any}
-use Rattle.rule.proofs.Heart.{event-yes, live-sound}
-use Rattle.rule.proofs.Order.{start-lt}
+use Rattle.rule.specs.Computed.{isEvent, live, lines, closing, closed, report, isMet, peak, scan, forward, any}
+use Rattle.rule.proofs.LiveReadings.{event-yes, live-sound}
+use Rattle.rule.proofs.LiveOrder.{start-lt}
 use Rattle.rule.proofs.Report.{event-in}
 use Rattle.slots.specs.Slots.{Held, slotBytes, holding, countIn, heldIn, slotAt, slotsAt}
 use Rattle.slots.proofs.Slots.{length-heldIn}
@@ -34,10 +34,10 @@ use Rattle.forward.specs.Memory.{Standing, Ready, Begun, goneBy, Stands,
 use Rattle.forward.specs.Lines.{Told, Wrote}
 use Rattle.forward.specs.Passes.{Prepared, Ran}
 use Rattle.forward.proofs.Parts.{length-slotAt}
-use Rattle.forward.proofs.Longs.{slots-short, slots-short-of}
-use Rattle.forward.proofs.Moving.{start-in}
-use Rattle.forward.proofs.Rounds.{known, lines-held}
-use Rattle.forward.proofs.Closings.{slot-holds, slot-mem, gone-le, closing-held, next-held, long-met, short-live, live-short, live-gap}
+use Rattle.forward.proofs.TooLong.{slots-short, slots-short-of}
+use Rattle.forward.proofs.Halves.{start-in}
+use Rattle.forward.proofs.HeldByRule.{known, lines-held}
+use Rattle.forward.proofs.OneRecord.{slot-holds, slot-mem, gone-le, closing-held, next-held, long-met, short-live, live-short, live-gap}
 
 -- ## The scan, record by record
 

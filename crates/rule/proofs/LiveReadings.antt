@@ -8,13 +8,13 @@ use native.Mathlib.Omega.{arith}
 use native.Mathlib.Decide.{ℕ-discrete}
 use borrow.Author.Tests.{ltb-true, leb-true, le-leb, eqb-true, eqb-false, eq-eqb}
 use Rattle.patterns.specs.declared.Pattern.{Pattern}
-use Rattle.automaton.specs.Lists.{collect}
+use Rattle.automaton.specs.Filtering.{collect}
 use Rattle.automaton.specs.Automaton.{leaves, variablesOf}
 use Rattle.rule.specs.Rule.{Block, Binding, Reading, Event, InWindow, lastOf, fires}
-use Rattle.rule.specs.Steps.{Passed, Taken, Kept, Partial, Live}
-use Rattle.rule.specs.Lists.{isEvent, inWindow, fired, orElse, extend, step, live}
-use Rattle.automaton.proofs.Lists.{both, clash, decide, mem-filter, filter-mem, mem-map, map-mem, mem-collect, collect-mem, upto-mem}
-use Rattle.rule.proofs.Lists.{mem-only, only-mem, mem-or-else, or-else-mem, or-else-self}
+use Rattle.rule.specs.Growth.{Passed, Taken, Kept, Partial, Live}
+use Rattle.rule.specs.Computed.{isEvent, inWindow, fired, orElse, extend, step, live}
+use Rattle.automaton.proofs.Membership.{both, clash, decide, mem-filter, filter-mem, mem-map, map-mem, mem-collect, collect-mem, upto-mem}
+use Rattle.rule.proofs.OnlyOrElse.{mem-only, only-mem, mem-or-else, or-else-mem, or-else-self}
 
 module _ (p : Pattern) (B : Block) where
   pub fires-variable : (r : Reading) (v j : ℕ) → fires p B r v j ≡ true → v < p .n

@@ -1,9 +1,10 @@
--- What the start-by-start pass and measure answer by what they find meets their promises; and two answers that meet the
--- promise of measure are one. Assumes nothing.
+-- What the start-by-start pass and measure answer by what they find meets their promises; and two answers that meet one of
+-- these promises are one. Assumes nothing.
 use mathlib.Core.Path.{_≡_, sym, ap, _∙_}
 use mathlib.Core.List.{List}
 use Prim.Native.Nat.{ℕ, _≤_, _<_}
 use native.Mathlib.Omega.{arith}
+use native.Mathlib.Decide.{decLt}
 use lib.ListN.{length}
 use borrow.Author.Tests.{lt-ltb, le-ltb}
 use Rattle.records.specs.declared.Answer.{Answer}
@@ -11,14 +12,41 @@ use Rattle.records.specs.Blocks.{refused}
 use Rattle.numbers.proofs.Cases.{by-order}
 use Rattle.patterns.specs.declared.Pattern.{Pattern}
 use Rattle.rule.specs.Rule.{Block, Line, Report, TimesNeverFall, pack}
-use Rattle.rule.specs.Promises.{StartByStart, Measure, TooLong, refusedWith, success, measured}
+use Rattle.rule.specs.Promises.{Outcome, StartByStart, Measure, TooLong, refusedWith, success, measured}
 use Rattle.rule.specs.Starts.{foundAll, linesOf, leastOver, startAnswer, measureAnswer}
-use Rattle.rule.proofs.Sense.{never-twice}
-use Rattle.rule.proofs.Unique.{one-report}
+use Rattle.rule.proofs.EveryReading.{never-twice}
+use Rattle.rule.proofs.OneReport.{one-report}
 use Rattle.rule.proofs.Written.{report-written}
-use Rattle.rule.proofs.Start.{least}
-use Rattle.rule.proofs.Closed.{NoneOver, lines-report}
-use Rattle.rule.proofs.Over.{over-long, least-long, none-below, none-long, least-found, least-missing}
+use Rattle.rule.proofs.FoundReport.{NoneOver, lines-report}
+use Rattle.rule.proofs.FoundTooLong.{over-long, least-long, none-below, none-long, least-found, least-missing}
+
+-- ## One answer of the start-by-start pass
+
+pub least : {P : ℕ → Type 0} (i j : ℕ) → P i → P j → ((k : ℕ) → k < i → ¬ P k) → ((k : ℕ) → k < j → ¬ P k) → i ≡ j
+least i j a b f g = go (decLt i j) (decLt j i)
+  where
+    go : Dec (i < j) → Dec (j < i) → i ≡ j
+    go (yes l) d = absurd (g i l a)
+    go (no l) (yes d) = absurd (f j d b)
+    go (no l) (no d) = omega arith
+
+module _ (p : Pattern) (B : Block) (room : ℕ) where
+  pub one-start : (a b : Outcome) → StartByStart p B room a → StartByStart p B room b → a ≡ b
+  one-start a b (StartByStart.long j t f e) (StartByStart.long k u g d) = e ∙ ap (refusedWith room 9) (least {P = TooLong p B} j k t u f g) ∙ sym d
+  one-start a b (StartByStart.long j t f e) (StartByStart.twice k n u g d) = absurd (n j t)
+  one-start a b (StartByStart.long j t f e) (StartByStart.fullUp n m r d) = absurd (n j t)
+  one-start a b (StartByStart.long j t f e) (StartByStart.done l n m r h d) = absurd (n j t)
+  one-start a b (StartByStart.twice j n t f e) s = absurd (never-twice p B j t)
+  one-start a b (StartByStart.fullUp n m r e) (StartByStart.long k u g d) = absurd (n k u)
+  one-start a b (StartByStart.fullUp n m r e) (StartByStart.twice k n′ u g d) = absurd (never-twice p B k u)
+  one-start a b (StartByStart.fullUp n m r e) (StartByStart.fullUp n′ m′ r′ d) = e ∙ sym d
+  one-start a b (StartByStart.fullUp n m r e) (StartByStart.done l n′ m′ r′ h d) = absurd (omega (arith, r .more, ap (λ x. length (pack x)) (one-report p B (length B) (r .lines) l (r .report) r′)))
+  one-start a b (StartByStart.done l n m r h e) (StartByStart.long k u g d) = absurd (n k u)
+  one-start a b (StartByStart.done l n m r h e) (StartByStart.twice k n′ u g d) = absurd (never-twice p B k u)
+  one-start a b (StartByStart.done l n m r h e) (StartByStart.fullUp n′ m′ r′ d) = absurd (omega (arith, r′ .more, ap (λ x. length (pack x)) (one-report p B (length B) (r′ .lines) l (r′ .report) r)))
+  one-start a b (StartByStart.done l n m r h e) (StartByStart.done l′ n′ m′ r′ h′ d) = e ∙ ap (λ x. success room x 0) (one-report p B (length B) l l′ r r′) ∙ sym d
+
+-- ## What is answered by what is found
 
 module _ (p : Pattern) (B : Block) (mono : TimesNeverFall B) where
   -- the least record at which a reading would take a 33rd binding, and what is reported
