@@ -123,7 +123,6 @@ pub compared-constant : (k : Condition) (second : Record) → k .form ≡ 0 → 
 unfolding comparedWith
 compared-constant k second e = rw (eq-eqb _ _ e, comparedWith)
 
--- form 1 compares with the second variable's attribute
 pub compared-value : (k : Condition) (second : Record) → (k .form ≡ 0 → ⊥) → comparedWith k second ≡ value (k .attribute2) second
 unfolding comparedWith
 compared-value k second e = rw (ne-eqb _ _ e, comparedWith)

@@ -1,5 +1,5 @@
--- Reports fit the fields of a result: reports that differ never pack to the same numbers, and what a call leaves in the
--- result gives its report back. Assumes nothing.
+-- Reports fit the fields of a result, so what a call leaves in the result gives its report back, and different reports
+-- leave different results. Assumes nothing.
 use mathlib.Core.Path.{_≡_, refl, sym, ap, ap₂, _∙_}
 use mathlib.Core.List.{List, [], _∷_, _++_, nil≢cons, cons≢nil, head-eq-of-cons-eq, tail-eq-of-cons-eq, List·Memᴰ}
 use Prim.Native.Nat.{ℕ, _+_, _-_, _*_, _^_, _≤_, _<_}

@@ -1,4 +1,4 @@
--- The reading rule, as a property of a list of bindings.
+-- The reading rule: which lists of bindings are readings, when they close, and what is reported.
 -- A pattern is a checked one, a block a list of records, a reading a list of bindings, the LATEST first.
 use mathlib.Core.Path.{_≡_}
 use mathlib.Core.Bool.{Bool, true, false, _&&_, _||_}
