@@ -45,6 +45,10 @@ equal = 1
 abbrev pub greater : ℕ
 greater = 2
 
+-- Serves rule 3.2: how many orders there are
+abbrev pub orders : ℕ
+orders = 3
+
 -- Rule 3.2: how a stands to b
 unfoldable pub orderOf : ℤ → ℤ → ℕ
 orderOf a b = elim (ltZ a b) [ true ↦ less | false ↦ elim (ltZ b a) [ true ↦ greater | false ↦ equal ] ]
