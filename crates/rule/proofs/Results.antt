@@ -25,7 +25,7 @@ use Rattle.rule.proofs.Accepted.{CallTold}
 
 -- ## Reports
 
--- a checked pattern, and a block of 4,096 records at most whose times never fall
+-- a checked pattern, and a block of no more than the most records whose times never fall
 pub record CheckedInputs (p : Pattern) (B : Block) : Type 0 where
   pub pattern : InOrder p
   pub few : length B ≤ mostRecords
@@ -41,7 +41,7 @@ mark-range p B r j m (Closes.past a b e) = omega arith
 mark-range p B r j m (Closes.end a e) = omega arith
 
 module _ (p : Pattern) (B : Block) (checked : CheckedInputs p B) (short : (i : ℕ) → ¬ TooLong p B i) (J : ℕ) (l : List Line) (report : Report p B J l) where
-  -- no reading of 33 bindings: every line has room for its fields, and its mark is not 0
+  -- no reading with a binding too many: every line has room for its fields, and its mark is not 0
   line-fits : (x : Line) → List·Memᴰ x l → LineFits x × (1 ≤ x .mark)
   line-fits x m =
       let q = written-reported p B (checked .times) J x (report .sound x m) in

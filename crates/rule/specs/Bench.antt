@@ -1,4 +1,5 @@
--- Rows P1 to P10 as a table, from the bytes of pattern and block to the answer of each, with the lines that are printed.
+-- Rows P1 to P10 as a table, from the bytes of pattern and block to the answer of each, with the lines that are
+-- printed.
 use mathlib.Core.Path.{_≡_, refl}
 use mathlib.Core.Bool.{Bool, true, false, _&&_}
 use mathlib.Core.List.{List, [], _∷_, _++_}
@@ -19,7 +20,7 @@ use Rattle.automaton.specs.Steps.{stepsFrom, steps}
 use Rattle.automaton.specs.Listing.{stepBytes, stepRoom, stepsListed, listingBytes, allZero, ListingPromise}
 use Rattle.rule.specs.Rule.{Binding, Reading, Line, oldestFirst, Report, binds, choices, passes, inOrder, allowed, fires, isFull}
 use Rattle.rule.specs.Promises.{Outcome}
-use Rattle.rule.specs.Calls.{inputAnswer, patternIn, blockIn, zeros, roomIn, resultOf, workPerReading, mostLive, ForwardCall, StartByStartCall, MeasureCall}
+use Rattle.rule.specs.Calls.{inputAnswer, patternIn, blockIn, zeros, roomIn, resultOf, workPerReading, mostLive, mostResultBytes, ForwardCall, StartByStartCall, MeasureCall}
 use Rattle.rule.specs.Computed.{isEvent, inWindow, only, orElse, any, fired, extend, step, live, lines, closing, closed, report, isMet, peak, scan, forward}
 use Rattle.rule.specs.Starts.{isPast, closesAt, until, markAt, anyFires, inTurn, close, skipFound, startFound, foundFrom, foundAll, linesOf, leastOver, startAnswer, measureAnswer}
 
@@ -114,13 +115,13 @@ succeeds pattern block limit lentWork lentResult used readings peak numbers =
 
 -- what the match program lends (rule 9.1)
 abbrev pub fullLimit : ℕ
-fullLimit = 256
+fullLimit = mostLive
 
 abbrev pub fullWork : ℕ
-fullWork = 40960
+fullWork = workPerReading * mostLive
 
 abbrev pub fullResult : ℕ
-fullResult = 65536
+fullResult = mostResultBytes
 
 -- Rule 10.2
 abbrev pub P1 : Row

@@ -72,6 +72,10 @@ workPerReading = 160
 abbrev pub mostLive : ℕ
 mostLive = 256
 
+-- Rule 7.8: the longest result slice of a C call, which the match program lends too
+abbrev pub mostResultBytes : ℕ
+mostResultBytes = 65536
+
 -- Rule 8.8: limit and working memory are in order
 pub record LimitInOrder (limit lent : ℕ) : Type 0 where
   pub some : 1 ≤ limit

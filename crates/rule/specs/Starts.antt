@@ -17,7 +17,7 @@ use Rattle.rule.specs.Promises.{Outcome, mostBindings, refusedWith, succ
 use Rattle.rule.specs.Computed.{isEvent, only, any, line}
 use Rattle.rule.specs.Promises.{measured}
 
--- a full reading that closes, with its mark; or a reading that would take a 33rd binding, at a record
+-- a full reading that closes, with its mark; or a reading that would take a binding too many, at a record
 pub data Found : Type 0 where
   closed : ℕ → Reading → Found
   over : ℕ → Found
@@ -112,7 +112,7 @@ linesOf [] = []
 linesOf (closed mark r ∷ l) = line mark r ∷ linesOf l
 linesOf (over j ∷ l) = linesOf l
 
--- the least record at which a reading would take a 33rd binding; none where there is no such record below it
+-- the least record at which a reading would take a binding too many; none where there is no such record below it
 unfoldable pub leastOver : ℕ → List Found → ℕ
 leastOver none [] = none
 leastOver none (closed mark r ∷ l) = leastOver none l
