@@ -7,7 +7,7 @@ use Prim.Native.Nat.{ℕ, _<_, _≤_, min}
 use native.Mathlib.Omega.{arith}
 use borrow.Author.Tests.{eq-eqb, ne-eqb}
 use Rattle.records.specs.declared.Answer.{Answer}
-use Rattle.records.specs.Blocks.{refused}
+use Rattle.records.specs.Blocks.{mostRecords, refused}
 use Rattle.rule.specs.Calls.{patternIn, blockIn, LimitInOrder}
 use Rattle.rule.proofs.Demand3.{SameNumbers, TooManyFirst, forward-then-start, start-then-forward, room-refused, many-inside}
 use Rattle.rule.proofs.Inputs.{input-in-order, times-never-fall}
@@ -95,13 +95,13 @@ module _ (pattern block : List ℕ) (limit lentWork lentResult word other : ℕ)
 
 module _ (pattern block : List ℕ) (limit lentWork lentResult word : ℕ) (work result : List ℕ) where
   -- a record of the block, so its number fits the field
-  place-fits : (j : ℕ) → TooManyFirst pattern block limit lentWork lentResult j → j ≤ 4096
+  place-fits : (j : ℕ) → TooManyFirst pattern block limit lentWork lentResult j → j ≤ mostRecords
   place-fits j h =
       let inputs = input-in-order pattern block (h .accepted) in
       omega (arith, many-inside (patternIn pattern) (blockIn block) (times-never-fall block (inputs .ordered)) limit j (h .many), checked-input pattern block inputs .few)
 
-  -- 10 at record j, exactly where more readings than the limit are live after it and no other refusal comes first, that of
-  -- the result slice among them
+  -- 10 at record j, exactly where more readings than the limit are live after it and no other refusal comes first, that
+  -- of the result slice among them
   pub host-room-refused :
       ForwardHost pattern block limit lentWork lentResult word work result
       → (j : ℕ)

@@ -1,5 +1,5 @@
--- The C answer of a pass has exactly the fields of the call's answer, since all of them fit, and two answers that differ pack
--- to numbers that differ. Assumes nothing.
+-- The C answer of a pass has exactly the fields of the call's answer, since all of them fit, and two answers that
+-- differ pack to numbers that differ. Assumes nothing.
 use mathlib.Core.Path.{_≡_, _∙_, refl, sym, ap, subst}
 use mathlib.Core.Logic.{_⊎_, inl, inr}
 use mathlib.Core.Bool.{Bool, true, false, not, _&&_, false≢true}
@@ -29,13 +29,12 @@ use Rattle.automaton.specs.Listing.{ListingPromise, stepsListed}
 use Rattle.automaton.proofs.Counts.{all-steps}
 use Rattle.rule.specs.Rule.{Block, Line, TimesNeverFall, pack, packBindings}
 use Rattle.rule.specs.Promises.{Outcome, LiveCount, Forward, StartByStart, success}
-use Rattle.rule.specs.Calls.{inputAnswer, patternIn, blockIn, roomIn, StartByStartCall, ForwardCall}
+use Rattle.rule.specs.Calls.{inputAnswer, patternIn, blockIn, mostLive, mostResultBytes, roomIn, StartByStartCall, ForwardCall}
 use Rattle.rule.proofs.FoundTooLong.{long-in}
 use Rattle.rule.proofs.EveryReading.{never-twice}
 use Rattle.rule.proofs.Inputs.{pattern-refusals, input-pattern, input-block, input-refused, input-in-order, times-never-fall}
 use Rattle.rule.proofs.Results.{checked-input}
 use Rattle.spaldep.specs.Packed.{placeOrUsed, packedAnswer, codeIn, placeOrUsedIn, readingsIn, peakIn}
-use Rattle.spaldep.specs.Host.{mostResultBytes}
 use Rattle.spaldep.proofs.Fields.{packed-code, packed-place, packed-readings, packed-peak}
 
 -- ## What fits
@@ -70,7 +69,7 @@ module _ (a : Answer) where
   unfolding placeOrUsed
   place-fits n l = rw (ne-eqb (a .code) 0 n, placeOrUsed) l
 
-pub refused-fits : (code place : ℕ) → 0 < code → code ≤ 13 → place ≤ 4096 → Fits (refused code place)
+pub refused-fits : (code place : ℕ) → 0 < code → code ≤ 13 → place ≤ mostRecords → Fits (refused code place)
 refused-fits code place l m h =
     record {
       code = omega arith;
@@ -81,7 +80,7 @@ refused-fits code place l m h =
 
 -- ## Where a pattern or a block is refused
 
-pattern-place : (bytes : List ℕ) → patternAnswer bytes .place ≤ 4096
+pattern-place : (bytes : List ℕ) → patternAnswer bytes .place ≤ mostRecords
 pattern-place bytes =
     by-order (length bytes) headerBytes
     (λ h. placed (answer-short bytes h) (omega arith))
@@ -96,8 +95,8 @@ pattern-place bytes =
     (λ conditions. placed (answer-pattern bytes long head whole variables conditions) (omega arith))))
     (λ h. placed (answer-length bytes long head (eqb-false (length bytes) (wholeLength bytes) h)) (omega arith))))
   where
-    placed : {a : Checked} → patternAnswer bytes ≡ a → a .place ≤ 4096 → patternAnswer bytes .place ≤ 4096
-    placed e l = subst (λ (a : Checked). a .place ≤ 4096) (sym e) l
+    placed : {a : Checked} → patternAnswer bytes ≡ a → a .place ≤ mostRecords → patternAnswer bytes .place ≤ mostRecords
+    placed e l = subst (λ (a : Checked). a .place ≤ mostRecords) (sym e) l
 
 module _ (bytes : List ℕ) where
   fit-count : misfit bytes ≡ false → recordCount bytes ≤ mostRecords
@@ -115,7 +114,7 @@ module _ (bytes : List ℕ) where
   unfolding blockAnswer
   good-place m l = rw (m, le-ltb (firstBad bytes) (recordCount bytes) l, blockAnswer)
 
-  block-place : blockAnswer bytes .place ≤ 4096
+  block-place : blockAnswer bytes .place ≤ mostRecords
   block-place =
       by-test (misfit bytes)
       (λ m. omega (arith, ap (λ (a : Answer). a .place) (answer-misfit bytes m)))
@@ -124,7 +123,7 @@ module _ (bytes : List ℕ) where
       (λ l. omega (arith, good-place m l)))
 
 module _ (pattern block : List ℕ) where
-  input-place : inputAnswer pattern block .place ≤ 4096
+  input-place : inputAnswer pattern block .place ≤ mostRecords
   input-place =
       by-test (eqb (patternAnswer pattern .code) 0)
       (λ t. omega (arith, ap (λ (a : Answer). a .place) (input-block pattern block (eqb-true (patternAnswer pattern .code) 0 t)), block-place block))
@@ -147,7 +146,7 @@ readings-le : (l : List Line) → length l ≤ length (pack l)
 readings-le [] = omega arith
 readings-le (x ∷ l) = omega (arith, readings-le l, length-append (packBindings (x .reading)) (pack l))
 
-success-fits : (l : List Line) (room peak : ℕ) → length (pack l) ≤ room → room ≤ 32768 → peak ≤ 256 → Fits (success room l peak .answer)
+success-fits : (l : List Line) (room peak : ℕ) → length (pack l) ≤ room → room ≤ roomIn mostResultBytes → peak ≤ mostLive → Fits (success room l peak .answer)
 success-fits l room peak h m k =
     record {
       code = omega arith;
@@ -156,14 +155,14 @@ success-fits l room peak h m k =
       peak = omega arith;
     }
 
-module _ (p : Pattern) (B : Block) (few : length B ≤ 4096) (mono : TimesNeverFall B) (room : ℕ) (small : room ≤ 32768) where
+module _ (p : Pattern) (B : Block) (few : length B ≤ mostRecords) (mono : TimesNeverFall B) (room : ℕ) (small : room ≤ roomIn mostResultBytes) where
   start-pass-fits : (o : Outcome) → StartByStart p B room o → Fits (o .answer)
   start-pass-fits o (StartByStart.long j h n e) = subst (λ (x : Outcome). Fits (x .answer)) (sym e) (refused-fits 9 j (omega arith) (omega arith) (omega (arith, long-in p B mono j h)))
   start-pass-fits o (StartByStart.twice j s h n e) = absurd (never-twice p B j h)
   start-pass-fits o (StartByStart.fullUp s t h e) = subst (λ (x : Outcome). Fits (x .answer)) (sym e) (refused-fits 11 0 (omega arith) (omega arith) (omega arith))
   start-pass-fits o (StartByStart.done l s t r h e) = subst (λ (x : Outcome). Fits (x .answer)) (sym e) (success-fits l room 0 h small (omega arith))
 
-  forward-pass-fits : (L : ℕ) → L ≤ 256 → (o : Outcome) → Forward p B L room o → Fits (o .answer)
+  forward-pass-fits : (L : ℕ) → L ≤ mostLive → (o : Outcome) → Forward p B L room o → Fits (o .answer)
   forward-pass-fits L limit o (Forward.refuses j zero h m n e) = subst (λ (x : Outcome). Fits (x .answer)) (sym e) (refused-fits 11 0 (omega arith) (omega arith) (omega arith))
   forward-pass-fits L limit o (Forward.refuses j (suc zero) h m n e) = subst (λ (x : Outcome). Fits (x .answer)) (sym e) (refused-fits 9 j (omega arith) (omega arith) (omega arith))
   forward-pass-fits L limit o (Forward.refuses j (suc (suc zero)) h m n e) = subst (λ (x : Outcome). Fits (x .answer)) (sym e) (refused-fits 13 j (omega arith) (omega arith) (omega arith))
@@ -173,7 +172,7 @@ module _ (p : Pattern) (B : Block) (few : length B ≤ 4096) (mono : TimesNeverF
       fits : length (pack l) ≤ room
       fits = by-order room (length (pack l)) (λ q. absurd (n (length B) 0 (omega arith) (record { lines = l; report = r; more = q }))) (λ q. q)
 
-      bounded : (peak ≡ 0) ⊎ ((j : ℕ) × (j < length B) × LiveCount p B j peak) → peak ≤ 256
+      bounded : (peak ≡ 0) ⊎ ((j : ℕ) × (j < length B) × LiveCount p B j peak) → peak ≤ mostLive
       bounded (inl q) = omega arith
       bounded (inr q) = by-order L peak (λ m. absurd (n (q .0) 3 (omega (arith, q .1)) (record { number = peak; count = q .2; more = m }))) (λ m. omega arith)
 

@@ -7,12 +7,8 @@ use Prim.Native.Nat.{ℕ, _%_, _≤_}
 use Rattle.records.specs.declared.Answer.{Answer}
 use Rattle.records.specs.Blocks.{refused}
 use Rattle.automaton.specs.Listing.{ListingPromise}
-use Rattle.rule.specs.Calls.{inputAnswer, zeros, StartByStartCall, ForwardCall}
+use Rattle.rule.specs.Calls.{mostResultBytes, inputAnswer, zeros, StartByStartCall, ForwardCall}
 use Rattle.spaldep.specs.Packed.{packedAnswer}
-
--- Rule 7.8
-abbrev pub mostResultBytes : ℕ
-mostResultBytes = 65536
 
 -- Rules 7.8, 8.8
 pub record ResultInOrder (lent : ℕ) : Type 0 where

@@ -10,8 +10,6 @@ ghost use Rattle.spaldep.specs.Packed.{placeOrUsed, packedAnswer};
 ghost use Rattle.spaldep.specs.Host.{Fitness, unfitAnswer, StartByStartHost, ForwardHost, ListingHost};
 use records::Answer;
 
-const MOST_RESULT_BYTES: usize = 65536;
-
 // A number that stops at the largest one.
 fn capped(x: u64, largest: u64) -> u64
     ensures { λ r. ⌜ r ≡ min x largest ⌝ }
@@ -31,7 +29,7 @@ fn place_or_used(a: Answer) -> u64
     a.place as u64
 }
 
-// The answer as one number, high field first: code 8, place or used 24, readings 16, peak 16.
+// The answer as one number (Rule 7.8): from the high end 8 bits for the code, 24 for place or used, then twice 16.
 fn pack(a: Answer) -> u64
     ensures { λ r. ⌜ r ≡ packedAnswer a ⌝ }
 {
@@ -57,14 +55,14 @@ pub extern "C" fn spaldep_check_block(block: &[u8]) -> u64
     pack(records::check_block(block))
 }
 
-// Whether a result slice of so many bytes is of odd length or too long.
+// Whether a result slice of so many bytes is unfit for a C call (Rule 7.8).
 fn is_unfit(lent: usize) -> bool
     ensures { λ r. ⌜ Fitness lent r ⌝ }
 {
     if lent % 2 != 0 {
         return true;
     }
-    MOST_RESULT_BYTES < lent
+    slots::MOST_RESULT_BYTES < lent
 }
 
 // What pattern and block are refused by; code 0 where both are accepted.
