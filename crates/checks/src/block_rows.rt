@@ -1,13 +1,15 @@
 // The rows of blocks. What is written of one: code, place, used.
 ghost use mathlib.Core.Path.{_≡_};
-ghost use Prim.Native.Nat.{_<_};
+ghost use Prim.Native.Nat.{_+_, _*_, _<_};
 ghost use lib.ListN.{length};
+ghost use Rattle.records.specs.Records.{recordBytes};
+ghost use Rattle.records.specs.Blocks.{mostRecords};
+ghost use Rattle.tables.specs.Rows.{large};
 use records::Answer;
-
-const RECORD_BYTES: usize = 16;
+use records::RECORD_BYTES;
 
 // Four records more than a block may have.
-const ROOM: usize = 65600;
+const ROOM: usize = RECORD_BYTES * (records::MOST_RECORDS + 4);
 
 pub(crate) fn block_row(row: &[u8]) {
     let mut block = io::buffer();
@@ -33,15 +35,15 @@ pub(crate) fn events_row(row: &[u8]) {
     put_answer(records::check_block(&block[0..length]));
 }
 
-fn room() -> [u8; 65600]
-    ensures { λ r. ⌜ 65600 ≡ length r ⌝ }
+fn room() -> [u8; ROOM]
+    ensures { λ r. ⌜ recordBytes * (mostRecords + 4) ≡ length r ⌝ }
 {
-    [0; 65600]
+    [0; ROOM]
 }
 
 // Gives record i the time i + 1.
 fn set_times(block: &mut [u8], n: usize)
-    requires { ⌜ n < 100000 ⌝ }
+    requires { ⌜ n < large ⌝ }
 {
     let mut i = 0;
     while i < n {

@@ -1,10 +1,15 @@
 // The patterns, and what is written of the listing of one.
 ghost use mathlib.Core.Path.{_≡_};
-ghost use Prim.Native.Nat.{_<_};
+ghost use Prim.Native.Nat.{_+_, _*_, _<_};
 ghost use lib.ListN.{length};
+ghost use Rattle.patterns.specs.Patterns.{headerBytes, mostVariables, mostConditions, conditionBytes};
+use automaton::STEP_BYTES;
 use records::Answer;
 
-const STEP_BYTES: usize = 8;
+// The longest pattern.
+const PATTERN_ROOM: usize = patterns::HEADER_BYTES
+    + patterns::MOST_VARIABLES
+    + patterns::CONDITION_BYTES * patterns::MOST_CONDITIONS;
 
 // More than the longest listing has.
 const ROOM: usize = 6400;
@@ -71,7 +76,7 @@ pub(crate) fn largest(title: &[u8], lent: usize) {
         b"\x18\x18\x18\x18\x18\x18\x28\x28\x28\x28\x28\x28",
     );
     put_conditions(&mut pattern);
-    list(title, &pattern[0..276], lent);
+    list(title, &pattern, lent);
 }
 
 // Sets {0+, 1}, {2, 3+}, {4+, 5+}, {6, 7}, {8+}, {9}, {10+}, {11}: the most sets that a pattern can have.
@@ -84,7 +89,7 @@ pub(crate) fn eight_sets(title: &[u8], lent: usize) {
         b"\x18\x10\x20\x28\x38\x38\x40\x40\x58\x60\x78\x80",
     );
     put_conditions(&mut pattern);
-    list(title, &pattern[0..276], lent);
+    list(title, &pattern, lent);
 }
 
 // Its second condition has operator 5.
@@ -104,10 +109,10 @@ pub(crate) fn second_variable(title: &[u8], lent: usize) {
     list(title, &pattern[0..18], lent);
 }
 
-fn blank() -> [u8; 276]
-    ensures { λ r. ⌜ 276 ≡ length r ⌝ }
+fn blank() -> [u8; PATTERN_ROOM]
+    ensures { λ r. ⌜ headerBytes + mostVariables + conditionBytes * mostConditions ≡ length r ⌝ }
 {
-    [0; 276]
+    [0; PATTERN_ROOM]
 }
 
 // Bytes into a pattern, from a place on, where the pattern has the places.
@@ -158,10 +163,10 @@ fn list_into(title: &[u8], pattern: &[u8], slice: &mut [u8]) {
     }
 }
 
-fn slice() -> [u8; 6400]
+fn slice() -> [u8; ROOM]
     ensures { λ r. ⌜ 6400 ≡ length r ⌝ }
 {
-    [255; 6400]
+    [255; ROOM]
 }
 
 fn put_answer(answer: Answer) {

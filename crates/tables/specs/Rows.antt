@@ -10,6 +10,10 @@ lineFeed = 10
 abbrev pub space : ℕ
 space = 32
 
+-- more than any number of a table
+abbrev pub large : ℕ
+large = 100000
+
 -- r is the first place from `at` on that has the byte, or the end
 pub record FirstFrom (text : List ℕ) (byte at r : ℕ) : Type 0 where
   pub from : at ≤ r

@@ -2,10 +2,10 @@
 ghost use mathlib.Core.Path.{_≡_};
 ghost use Prim.Native.Nat.{_*_, _<_, _≤_, min};
 ghost use lib.ListN.{length, getD};
-ghost use Rattle.tables.specs.Rows.{FirstFrom, Behind, lineFeed, space};
+ghost use Rattle.tables.specs.Rows.{large, FirstFrom, Behind, lineFeed, space};
 use libc::STDOUT_FILENO;
 
-// More than any number of the table.
+// More than any number of a table.
 const LARGE: usize = 100000;
 
 pub fn put(text: &[u8]) {
@@ -80,7 +80,7 @@ fn digit(glyph: u8) -> usize
 
 // The decimal number at a place.
 pub fn number(row: &[u8], at: usize) -> usize
-    ensures { λ r. ⌜ r < 100000 ⌝ }
+    ensures { λ r. ⌜ r < large ⌝ }
 {
     let mut value = 0;
     let mut i = at;

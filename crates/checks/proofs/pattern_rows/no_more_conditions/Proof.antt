@@ -1,6 +1,8 @@
--- `checks::pattern_rows::no_more_conditions` is safe and ends: it looks at places below 32 alone. Assumes nothing.
+-- `checks::pattern_rows::no_more_conditions` is safe and ends: it looks at places of the pattern's arrays alone.
+-- Assumes nothing.
 use borrow.Author.Needs.{needs}
 use Prim.Native.Nat.{_-_}
+use Rattle.patterns.specs.Patterns.{mostConditions}
 use Rattle.checks.proofs.pattern_rows.no_more_conditions.Statement.{statement}
 use Rattle.checks.proofs.pattern_rows.no_more_conditions.Tie as tie
 
@@ -8,7 +10,7 @@ abbrev Inv-loop : tie.InvT-loop
 Inv-loop p i₀ i = Unit {0}
 
 abbrev μ-loop : tie.MeasureT-loop
-μ-loop p i₀ i = 32 - i
+μ-loop p i₀ i = mostConditions - i
 
 loop-holds : tie.Need-loop-holds Inv-loop μ-loop
 loop-holds c = search needs

@@ -1,6 +1,8 @@
--- `checks::pattern_rows::no_more_variables` is safe and ends: it looks at places below 12 alone. Assumes nothing.
+-- `checks::pattern_rows::no_more_variables` is safe and ends: it looks at places of the pattern's arrays alone. Assumes
+-- nothing.
 use borrow.Author.Needs.{needs}
 use Prim.Native.Nat.{_-_}
+use Rattle.patterns.specs.Patterns.{mostVariables}
 use Rattle.checks.proofs.pattern_rows.no_more_variables.Statement.{statement}
 use Rattle.checks.proofs.pattern_rows.no_more_variables.Tie as tie
 
@@ -8,7 +10,7 @@ abbrev Inv-loop : tie.InvT-loop
 Inv-loop p v₀ v = Unit {0}
 
 abbrev μ-loop : tie.MeasureT-loop
-μ-loop p v₀ v = 12 - v
+μ-loop p v₀ v = mostVariables - v
 
 loop-holds : tie.Need-loop-holds Inv-loop μ-loop
 loop-holds c = search needs

@@ -1,11 +1,13 @@
--- `checks::pattern_rows::put_conditions` is safe and ends: it writes conditions below 32 alone. Assumes nothing.
+-- `checks::pattern_rows::put_conditions` is safe and ends: it writes conditions that the arrays hold alone. Assumes
+-- nothing.
 use borrow.Author.Needs.{needs}
 use Prim.Native.Nat.{_≤_, _-_}
+use Rattle.patterns.specs.Patterns.{mostConditions}
 use Rattle.checks.proofs.pattern_rows.put_conditions.Statement.{statement}
 use Rattle.checks.proofs.pattern_rows.put_conditions.Tie as tie
 
 abbrev Inv-loop : tie.InvT-loop
-Inv-loop p c i₀ i = (i ≤ c) × (c ≤ 32)
+Inv-loop p c i₀ i = (i ≤ c) × (c ≤ mostConditions)
 
 abbrev μ-loop : tie.MeasureT-loop
 μ-loop p c i₀ i = c - i

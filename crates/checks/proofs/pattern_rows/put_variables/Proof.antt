@@ -1,11 +1,13 @@
--- `checks::pattern_rows::put_variables` is safe and ends: it writes variables below 12 alone. Assumes nothing.
+-- `checks::pattern_rows::put_variables` is safe and ends: it writes variables that the arrays hold alone. Assumes
+-- nothing.
 use borrow.Author.Needs.{needs}
 use Prim.Native.Nat.{_≤_, _-_}
+use Rattle.patterns.specs.Patterns.{mostVariables}
 use Rattle.checks.proofs.pattern_rows.put_variables.Statement.{statement}
 use Rattle.checks.proofs.pattern_rows.put_variables.Tie as tie
 
 abbrev Inv-loop : tie.InvT-loop
-Inv-loop p n v₀ v = (v ≤ n) × (n ≤ 12)
+Inv-loop p n v₀ v = (v ≤ n) × (n ≤ mostVariables)
 
 abbrev μ-loop : tie.MeasureT-loop
 μ-loop p n v₀ v = n - v
