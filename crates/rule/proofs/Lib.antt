@@ -19,6 +19,7 @@ pub mod FoundTooLong
 pub mod Inputs
 pub mod Calls
 pub mod Lent
+pub mod AtAGap
 pub mod ShutOut
 pub mod MadeUp
 pub mod ShutOutStart
