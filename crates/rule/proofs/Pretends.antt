@@ -102,11 +102,21 @@ unfolding single
 later-both k x (List·Memᴰ·head e) = omega (arith, ap (λ (y : Line). startOf (y .reading)) e)
 later-both k x (List·Memᴰ·tail m) = omega (arith, later-end (suc k) endMark x m)
 
-module _ (k : ℕ) (few : suc (suc k) ≤ mostRecords) where
-  less : suc k ≤ mostRecords
-  less = omega arith
+-- Wherever a pass succeeds, its result is made of the first k records of the block and of the right lines of its first
+-- k starts, in whatever way. Its answer and its result are functions of the block; the pattern is that of one variable.
+abbrev pub Pretending : ℕ → (List ℕ → Answer) → (List ℕ → List ℕ) → (List ℕ → List Line → List ℕ) → Type 0
+Pretending k answer result made =
+    (block : List ℕ) (l : List Line) → Bytes block → Report one (blockIn block) (length (blockIn block)) l
+    → answer block .code ≡ 0
+    → result block ≡ made (take (recordBytes * k) block) (firstStarts k l)
 
-  -- k + 1 and k + 2 events are the same in their first k records,
+-- ## k + 1 and k + 2 events
+
+module _ (k : ℕ) (few : suc (suc k) ≤ mostRecords) where
+  fewer : suc k ≤ mostRecords
+  fewer = omega arith
+
+  -- they are the same in their first k records,
   cut-less : take (recordBytes * k) (events (suc k)) ≡ events k
   unfolding events
   cut-less = take-at (events k) (eventBytes k 0 0) (recordBytes * k) (length-events k)
@@ -118,7 +128,7 @@ module _ (k : ℕ) (few : suc (suc k) ≤ mostRecords) where
       ∙ take-at (events k) (eventBytes k 0 0 ++ eventBytes (suc k) 0 0) (recordBytes * k) (length-events k)
 
   -- and in the lines of their first k starts;
-  first-less : firstStarts k (told k less) ≡ passed 0 k
+  first-less : firstStarts k (told k fewer) ≡ passed 0 k
   first-less = first-starts k 0 (line endMark (single k) ∷ []) (λ x m. omega (arith, later-end k endMark x m))
 
   first-more : firstStarts k (told (suc k) few) ≡ passed 0 k
@@ -128,80 +138,76 @@ module _ (k : ℕ) (few : suc (suc k) ≤ mostRecords) where
       ∙ append-assoc (passed 0 k) (line pastMark (single (0 + k)) ∷ []) (line endMark (single (suc k)) ∷ []))
       ∙ first-starts k 0 (line pastMark (single (0 + k)) ∷ line endMark (single (suc k)) ∷ []) (later-both k)
 
+  -- so a pass that pretends writes the same of both,
+  same-result : (answer : List ℕ → Answer) (result : List ℕ → List ℕ) (made : List ℕ → List Line → List ℕ)
+      → Pretending k answer result made
+      → answer (events (suc k)) .code ≡ 0
+      → answer (events (suc (suc k))) .code ≡ 0
+      → result (events (suc k)) ≡ result (events (suc (suc k)))
+  same-result answer result made pretending z y =
+      let bytes = events-bytes (suc (suc k)) in
+      pretending (events (suc k)) (told k fewer) (events-bytes (suc k)) (report-of k fewer) z
+      ∙ ap₂ made (cut-less ∙ sym cut-more) (first-less ∙ sym first-more)
+      ∙ sym (pretending (events (suc (suc k))) (told (suc k) few) bytes (report-of (suc k) few) y)
+
   -- but no result serves both
   apart : (a b : Answer) (result other : List ℕ) → CallTold onePattern (events (suc k)) fullResult a result
-      → CallTold onePattern (events (suc (suc k))) fullResult b other → ¬ (result ≡ other)
+      → CallTold onePattern (events (suc (suc k))) fullResult b other
+      → ¬ (result ≡ other)
   apart a b result other c d e =
       let f = subst (CallTold onePattern (events (suc k)) fullResult a) e c in
       let q = results-apart onePattern (events (suc k)) onePattern (events (suc (suc k))) fullResult a b other f d in
-      let l = sym (lines-told k less a other f) ∙ q ∙ lines-told (suc k) few b other d in
-      omega (arith, ap length l, told-length k less, told-length (suc k) few)
+      let l = sym (lines-told k fewer a other f) ∙ q ∙ lines-told (suc k) few b other d in
+      omega (arith, ap length l, told-length k fewer, told-length (suc k) few)
 
 -- ## What is shut out
 
--- Wherever a pass succeeds, its result is made of the first k records of the block and of the right lines of its first
--- k starts, in whatever way. Its answer and its result are functions of the block; the pattern is that of one variable.
-abbrev pub Pretending : ℕ → (List ℕ → Answer) → (List ℕ → List ℕ) → (List ℕ → List Line → List ℕ) → Type 0
-Pretending k answer result made =
-    (block : List ℕ) (l : List Line) → Bytes block → Report one (blockIn block) (length (blockIn block)) l
-    → answer block .code ≡ 0
-    → result block ≡ made (take (recordBytes * k) block) (firstStarts k l)
+-- no forward pass that pretends meets the promise of every block of bytes
+pub pretends : (k : ℕ) → k + 2 ≤ mostRecords
+    → (answer : List ℕ → Answer) (work result : List ℕ → List ℕ) (made : List ℕ → List Line → List ℕ)
+    → Pretending k answer result made
+    → ¬ ((block : List ℕ) → Bytes block → OfOne block (answer block) (work block) (result block))
+pretends k room answer work result made pretending meets =
+    let few : suc (suc k) ≤ mostRecords = omega arith in
+    let met = meets (events (suc k)) (events-bytes (suc k)) in
+    let also = meets (events (suc (suc k))) (events-bytes (suc (suc k))) in
+    let z = forward-code k (fewer k few) _ _ _ met in
+    let y = forward-code (suc k) few _ _ _ also in
+    apart k few _ _ _ _
+    (forward-call-told onePattern (events (suc k)) fullLimit fullWork fullResult _ _ _ met z)
+    (forward-call-told onePattern (events (suc (suc k))) fullLimit fullWork fullResult _ _ _ also y)
+    (same-result k few answer result made pretending z y)
 
-module _ (k : ℕ) (few : k ≤ 4094) (answer : List ℕ → Answer) (result : List ℕ → List ℕ) where
-  less-than : suc k ≤ mostRecords
-  less-than = omega arith
+-- and no start-by-start pass
+pub start-pretends : (k : ℕ) → k + 2 ≤ mostRecords
+    → (answer : List ℕ → Answer) (result : List ℕ → List ℕ) (made : List ℕ → List Line → List ℕ)
+    → Pretending k answer result made
+    → ¬ ((block : List ℕ) → Bytes block → StartOfOne block (answer block) (result block))
+start-pretends k room answer result made pretending meets =
+    let few : suc (suc k) ≤ mostRecords = omega arith in
+    let met = meets (events (suc k)) (events-bytes (suc k)) in
+    let also = meets (events (suc (suc k))) (events-bytes (suc (suc k))) in
+    let z = start-code k (fewer k few) _ _ met in
+    let y = start-code (suc k) few _ _ also in
+    apart k few _ _ _ _
+    (start-by-start-told onePattern (events (suc k)) fullResult _ _ met z)
+    (start-by-start-told onePattern (events (suc (suc k))) fullResult _ _ also y)
+    (same-result k few answer result made pretending z y)
 
-  more-than : suc (suc k) ≤ mostRecords
-  more-than = omega arith
+-- such as one that writes the lines of the first k starts and no others
+pub first-starts-only : (k : ℕ) → k + 2 ≤ mostRecords
+    → (answer : List ℕ → Answer) (work result : List ℕ → List ℕ)
+    → Pretending k answer result (λ front l. resultOf fullResult (pack l))
+    → ¬ ((block : List ℕ) → Bytes block → OfOne block (answer block) (work block) (result block))
+first-starts-only k room answer work result =
+    pretends k room answer work result (λ front l. resultOf fullResult (pack l))
 
-  module _ (made : List ℕ → List Line → List ℕ) (pretending : Pretending k answer result made) where
-    -- so k + 1 and k + 2 events get the same
-    same-result : answer (events (suc k)) .code ≡ 0 → answer (events (suc (suc k))) .code ≡ 0
-        → result (events (suc k)) ≡ result (events (suc (suc k)))
-    same-result z y =
-        let less = pretending (events (suc k)) (told k less-than) (events-bytes (suc k)) (report-of k less-than) z in
-        let bytes = events-bytes (suc (suc k)) in
-        let more = pretending (events (suc (suc k))) (told (suc k) more-than) bytes (report-of (suc k) more-than) y in
-        let cut = cut-less k more-than ∙ sym (cut-more k more-than) in
-        let starts = first-less k more-than ∙ sym (first-more k more-than) in
-        less ∙ ap₂ made cut starts ∙ sym more
-
-    -- no forward pass
-    pub pretends : (work : List ℕ → List ℕ)
-        → ¬ ((block : List ℕ) → Bytes block → OfOne block (answer block) (work block) (result block))
-    pretends work meets =
-        let met = meets (events (suc k)) (events-bytes (suc k)) in
-        let also = meets (events (suc (suc k))) (events-bytes (suc (suc k))) in
-        let z = forward-code k less-than _ _ _ met in
-        let y = forward-code (suc k) more-than _ _ _ also in
-        apart k more-than _ _ _ _
-        (forward-call-told onePattern (events (suc k)) fullLimit fullWork fullResult _ _ _ met z)
-        (forward-call-told onePattern (events (suc (suc k))) fullLimit fullWork fullResult _ _ _ also y)
-        (same-result z y)
-
-    -- and no start-by-start pass
-    pub start-pretends : ¬ ((block : List ℕ) → Bytes block → StartOfOne block (answer block) (result block))
-    start-pretends meets =
-        let met = meets (events (suc k)) (events-bytes (suc k)) in
-        let also = meets (events (suc (suc k))) (events-bytes (suc (suc k))) in
-        let z = start-code k less-than _ _ met in
-        let y = start-code (suc k) more-than _ _ also in
-        apart k more-than _ _ _ _
-        (start-by-start-told onePattern (events (suc k)) fullResult _ _ met z)
-        (start-by-start-told onePattern (events (suc (suc k))) fullResult _ _ also y)
-        (same-result z y)
-
-  -- one that writes the lines of the first k starts and no others
-  abbrev FirstOnly : Type 0
-  FirstOnly = Pretending k answer result (λ front l. resultOf fullResult (pack l))
-
-  pub first-starts-only : FirstOnly → (work : List ℕ → List ℕ)
-      → ¬ ((block : List ℕ) → Bytes block → OfOne block (answer block) (work block) (result block))
-  first-starts-only = pretends (λ front l. resultOf fullResult (pack l))
-
-  pub start-first-starts-only : FirstOnly
-      → ¬ ((block : List ℕ) → Bytes block → StartOfOne block (answer block) (result block))
-  start-first-starts-only = start-pretends (λ front l. resultOf fullResult (pack l))
+pub start-first-starts-only : (k : ℕ) → k + 2 ≤ mostRecords
+    → (answer : List ℕ → Answer) (result : List ℕ → List ℕ)
+    → Pretending k answer result (λ front l. resultOf fullResult (pack l))
+    → ¬ ((block : List ℕ) → Bytes block → StartOfOne block (answer block) (result block))
+start-first-starts-only k room answer result =
+    start-pretends k room answer result (λ front l. resultOf fullResult (pack l))
 
 -- ## The first start of the bench block
 
@@ -223,19 +229,28 @@ bench-not-front e = let q : _≡_ {A = ℕ} 32 0 = ap (λ l. getD l 10 0) e in o
 frontRow : Says front
 frontRow = rows front (search (List·Memᴰ·head, List·Memᴰ·tail) depth 16)
 
+abbrev pub OfFront : Answer → List ℕ → List ℕ → Type 0
+OfFront answer work result = ForwardCall benchPattern benchFront fullLimit fullWork fullResult answer work result
+
+abbrev pub StartOfFront : Answer → List ℕ → Type 0
+StartOfFront answer result = StartByStartCall benchPattern benchFront fullResult answer result
+
+module _ (answer : Answer) (result : List ℕ) where
+  front-told : (work : List ℕ) → OfFront answer work result → result ≡ resultOf fullResult frontNumbers
+  front-told work met =
+      forward-one benchPattern benchFront fullLimit fullWork fullResult answer _ work _ result _ met (frontRow .0) .2
+
+  start-front-told : StartOfFront answer result → result ≡ resultOf fullResult frontNumbers
+  start-front-told met = start-by-start-one benchPattern benchFront fullResult answer _ result _ met (frontRow .1) .1
+
 -- but no result serves both
 module _ (answer other : Answer) (result otherResult : List ℕ) where
   pub bench-pretends : (work otherWork : List ℕ) → result ≡ otherResult → OfBench answer work result
-      → ¬ ForwardCall benchPattern benchFront fullLimit fullWork fullResult other otherWork otherResult
+      → ¬ OfFront other otherWork otherResult
   bench-pretends work otherWork e met also =
-      let q =
-      forward-one benchPattern benchFront fullLimit fullWork fullResult other _ otherWork _ otherResult _ also
-      (frontRow .0)
-      in
-      bench-not-front (sym (bench-told answer work result met .2) ∙ e ∙ q .2)
+      bench-not-front
+      (sym (bench-told answer work result met .2) ∙ e ∙ front-told other otherResult otherWork also)
 
-  pub start-bench-pretends : result ≡ otherResult → StartOfBench answer result
-      → ¬ StartByStartCall benchPattern benchFront fullResult other otherResult
+  pub start-bench-pretends : result ≡ otherResult → StartOfBench answer result → ¬ StartOfFront other otherResult
   start-bench-pretends e met also =
-      let q = start-by-start-one benchPattern benchFront fullResult other _ otherResult _ also (frontRow .1) in
-      bench-not-front (sym (start-bench-told answer result met .1) ∙ e ∙ q .1)
+      bench-not-front (sym (start-bench-told answer result met .1) ∙ e ∙ start-front-told other otherResult also)
