@@ -121,7 +121,8 @@ uint64_t spaldep_check_pattern(const uint8_t *pattern, size_t pattern_len);
  *
  *                  2 bits  kind: 0 an event, 1 a gap, where entries were lost
  *                  6       core; zero in a gap
- *                  8       type; zero in a gap
+ *                  8       type; zero in a gap. It gives an event its class: 0 up to type 15, 1 up to 31, 2 up to 63,
+ *                          3 up to 95, 4 up to 127, 5 above
  *                 40       time in cycles, later than that of the record before
  *                 32       slot, unsigned; in a gap how many entries were lost, 1 or more
  *                 32       amount, two's complement; zero in a gap
