@@ -16,8 +16,8 @@ static bool gap_between(const struct block *b, size_t above, size_t to) {
   return false;
 }
 
-/* Rule 5.1: each binding lies in the window (5.6) and fires after those before it (5.4), no gap stands between them
-   (5.6), and nothing that fires was passed over (5.5). */
+/* Rule 5.4: each binding is to a later event than the one before, by a step that fires there. By Rule 5.6 all of them
+   are in the window and no gap is between them, and by Rule 5.5 nothing that fires was passed over. */
 static bool partial_reading(const struct pattern *p, const struct block *b, const struct reading *r) {
   if (r->count == 0) return false;
   size_t first = r->binding[0].record, last = r->binding[r->count - 1].record;

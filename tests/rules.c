@@ -307,7 +307,7 @@ static void put(uint8_t *result, size_t at, unsigned number) {
   result[2 * at + 1] = (uint8_t)(number & 255);
 }
 
-/* Rules 6.2 and 6.3. */
+/* Rules 6.1 to 6.3. */
 uint64_t write_report(struct list *report, size_t peak, uint8_t *result) {
   size_t at = 0;
   if (report->count > 0) qsort(report->reading, report->count, sizeof *report->reading, report_order);
