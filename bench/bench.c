@@ -1,7 +1,8 @@
 /*
- * bench [--stack]: times the library's two passes against the yardstick's on five workloads, by what they ask of an event
- * alone, and measures the stack of a call; with --stack only that. Both must give the same answer and the same bytes on each. Times are the least of several
- * rounds, the two taken in turn; the stack is painted before a call, and what the call overwrote is counted.
+ * bench [--stack]: times the library's two passes against the yardstick's on five workloads, by what they ask of an
+ * event alone, and measures the stack of a call; with --stack only that. Both must give the same answer and the same
+ * bytes on each. Times are the least of several rounds, the two taken in turn; the stack is painted before a call, and
+ * what the call overwrote is counted.
  */
 #define _DEFAULT_SOURCE
 #include <stdbool.h>

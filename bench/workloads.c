@@ -60,7 +60,7 @@ static void own_conditions(struct workload *w, unsigned variable, unsigned class
   if (way == BY_ITSELF) with_variable(w, variable, first[class], EQUAL, variable, second[class]);
 }
 
-/* Document 01's bench pattern, with a duration of its own. */
+/* The pattern of Rule 10.1, with a duration of its own. */
 static void bench_pattern(struct workload *w, uint64_t duration) {
   begin_pattern(w, 3, "\x10\x18\x20", duration);
   for (unsigned v = 0; v < 3; v++) own_conditions(w, v, v);
@@ -70,8 +70,8 @@ static void bench_pattern(struct workload *w, uint64_t duration) {
 
 /* ---- blocks: a record every 10 cycles ---- */
 
-/* An event's slot and amount, by which BY_AMOUNT and BY_ITSELF know its class: of class 0 the slot is the core, of class 1
-   the type, of class 2 the amount is the class. */
+/* An event's slot and amount, by which BY_AMOUNT and BY_ITSELF know its class: of class 0 the slot is the core, of
+   class 1 the type, of class 2 the amount is the class. */
 static void tell_class(unsigned core, unsigned class, uint32_t *slot, uint32_t *amount) {
   if (way == BY_AMOUNT) *amount = class;
   if (way != BY_ITSELF) return;
@@ -150,8 +150,8 @@ static void idle_workload(struct workload *w) {
   for (size_t i = 0; i < RECORDS; i++) put_record(w, i, chance(4), 3 + chance(3), chance(100), chance(100));
 }
 
-/* Twelve group variables, six of each of two sets. Each of 32 events fires all six of the first set while only variable 5
-   is bound; once another is, that one's loop alone fires, since no two of the first five go together. */
+/* Twelve group variables, six of each of two sets. Each of 32 events fires all six of the first set while only variable
+   5 is bound; once another is, that one's loop alone fires, since no two of the first five go together. */
 static void deep_workload(struct workload *w) {
   w->name = "deepest (stack only)";
   begin_pattern(w, 12, "\x18\x18\x18\x18\x18\x18\x28\x28\x28\x28\x28\x28", 0xffffffffff);

@@ -16,10 +16,10 @@ struct workload {
    variables firing at each, with long idle stretches between. */
 enum { WORKLOADS = 5, JOINS_WORKLOAD = 3 };
 
-/* What a workload's variables ask of an event alone: its class, its type, its amount, its type and a bound on its slot, or
-   something of each that compares two of the event's own attributes. The same events meet them, but for the bound, which
-   some of those events fail. JOINS_WORKLOAD, whose joins need slots and amounts of their own, has no BY_AMOUNT and no
-   BY_ITSELF. */
+/* What a workload's variables ask of an event alone: its class, its type, its amount, its type and a bound on its slot,
+   or something of each that compares two of the event's own attributes. The same events meet them, but for the bound,
+   which some of those events fail. JOINS_WORKLOAD, whose joins need slots and amounts of their own, has no BY_AMOUNT
+   and no BY_ITSELF. */
 enum asked { BY_CLASS, BY_TYPE, BY_AMOUNT, BY_TYPE_AND_SLOT, BY_ITSELF, WAYS_TO_ASK };
 
 void make_workload(unsigned number, enum asked asked, struct workload *out);

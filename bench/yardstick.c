@@ -234,7 +234,7 @@ static void tell(struct report *to, unsigned mark, const uint16_t *binding, unsi
   to->readings++;
 }
 
-/* The answer of a pass, with the result slice as document 01 wants it. */
+/* The answer of a pass, with the result slice as Rules 7.1 and 7.2 want it. */
 static uint64_t finish(const struct report *report, uint64_t refused, size_t peak, size_t result_len) {
   size_t keep = refused == 0 ? 2 * report->used : 0;
   memset(report->result + keep, 0, result_len - keep);

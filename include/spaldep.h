@@ -1,11 +1,11 @@
 /*
- * Spaldep: picks replay spans from a block of records. The C calls of libspaldep.a.
+ * Spaldep: picks replay spans from the records of a block. The C calls of libspaldep.a.
  *
- * A pattern is a sequence of sets of events: any order inside a set, the sets one after another, all within a
- * number of cycles. A block is 0 to 4,096 records of 16 bytes, with marked gaps. A reading binds the pattern's
- * variables to records; a full reading that closes is reported. Two passes report the same readings: the forward
- * pass goes through the records once with a limit of live readings, the start-by-start pass goes on from each
- * record in turn and has no limit.
+ * A pattern is a sequence of sets of variables that stand for events: the events of one set may come in any order,
+ * those of a later set come later, and all lie within a number of cycles. A block is 0 to 4,096 records of 16 bytes,
+ * with marked gaps. A reading binds the pattern's variables to records; a full reading that closes is reported. Two
+ * passes report the same readings: the forward pass goes through the records once with a limit of live readings, the
+ * start-by-start pass goes on from each record in turn and has no limit.
  *
  * Link with libspaldep.a (x86-64). No call needs another first, and none has anything to set up or to free.
  *
@@ -30,7 +30,7 @@
  *   spaldep_place     of a refusal: the variable, condition or record that it is about, from 0; otherwise 0
  *   spaldep_used      of success: how many numbers, steps or records, as each call says; 0 with a refusal
  *   spaldep_readings  of a pass that succeeded: the readings reported; 0 otherwise
- *   spaldep_peak      of a forward pass that succeeded: the most readings live after any record; 0 otherwise
+ *   spaldep_peak      of a forward pass that succeeded: how many readings were live at once, at most; 0 otherwise
  *
  * Where several refusals hold, the one that comes first in this order is given: a pattern under 8 bytes, its header,
  * its length, its first bad variable, its first bad condition; the block's length, its first bad record; limit and
@@ -49,28 +49,28 @@ extern "C" {
 /* The refusals, each with what its place is. */
 enum {
   SPALDEP_DONE = 0,
-  SPALDEP_REFUSED_PATTERN_LENGTH = 1,  /* pattern under 8 bytes, or not 8 + n + 8c; place 0 */
+  SPALDEP_REFUSED_PATTERN_LENGTH = 1,  /* no whole header, or not as long as its header says; place 0 */
   SPALDEP_REFUSED_HEADER = 2,          /* edition not 1, n not 1 to 12, c over 32, or zero bits set; place 0 */
   SPALDEP_REFUSED_VARIABLE = 3,        /* a variable's byte breaks its rules; place: the first such variable */
   SPALDEP_REFUSED_CONDITION = 4,       /* a condition breaks its rules; place: the first such condition */
   SPALDEP_REFUSED_BLOCK_LENGTH = 5,    /* block not whole records, or over 4,096 of them; place 0 */
-  SPALDEP_REFUSED_RECORD = 6,          /* kind 2 or 3, last byte not 0, or a broken gap; place: the record */
-  SPALDEP_REFUSED_TIME = 7,            /* a time not above the one before; place: the record */
+  SPALDEP_REFUSED_RECORD = 6,          /* neither event nor gap, zero bits set, or a broken gap; place: the record */
+  SPALDEP_REFUSED_TIME = 7,            /* a time no later than that of the record before; place: the record */
   SPALDEP_REFUSED_LIMIT_OR_MEMORY = 8, /* limit not 1 to 256, work under 160 bytes a reading of it, or a result
-                                          slice of odd length or over 65,536 bytes; place 0 */
-  SPALDEP_REFUSED_BINDINGS = 9,        /* a reading would take a 33rd binding; place: the first such record */
+                                          slice that is odd or longer than 65,536 bytes; place 0 */
+  SPALDEP_REFUSED_BINDINGS = 9,        /* a reading of 32 bindings must take one more; place: the first such record */
   SPALDEP_REFUSED_LIVE = 10,           /* more readings live than the limit; place: the record after which */
   SPALDEP_REFUSED_RESULT_ROOM = 11,    /* the report needs more numbers than the result slice has; place 0 */
   SPALDEP_REFUSED_LISTING_ROOM = 12,   /* the automaton has more steps than the listing slice has; place 0 */
-  SPALDEP_REFUSED_BOUND_TWICE = 13     /* one record bound twice in one reading; place: the record. It has a
-                                          number and does not arise. */
+  SPALDEP_REFUSED_BOUND_TWICE = 13     /* a reading binds a record twice; place: the record. It has a number and
+                                          does not arise. */
 };
 
 /* How a reported reading was closed: spaldep_mark. */
 enum {
-  SPALDEP_MARK_WINDOW = 1, /* by a record more than the duration after its first */
-  SPALDEP_MARK_END = 2,    /* by the end of the block */
-  SPALDEP_MARK_GAP = 3     /* by a gap */
+  SPALDEP_MARK_WINDOW = 1, /* by an event that is later than its first one by more than the duration */
+  SPALDEP_MARK_END = 2,    /* by the block's end */
+  SPALDEP_MARK_GAP = 3     /* by a gap, near or far */
 };
 
 /* Sizes. Slices may be shorter or longer than these; each call says what it then does. */
@@ -89,26 +89,44 @@ enum {
 #define SPALDEP_STACK_START_BY_START 36864u
 
 /*
- * Checks a pattern of pattern_len bytes.
+ * Checks a pattern of pattern_len bytes. Its fields, from the most significant bit on:
  *
- *   Header   edition 4 bits (1), n 4 (variables, 1 to 12), c 8 (conditions, 0 to 32), zero 8, duration 40
- *   Then     n bytes, one a variable: set number 4 bits, group flag 1, zero 3. Set numbers begin at 1, never fall,
- *            rise by one at most and reach 8 at most; a set has at most 6 variables.
- *   Then     8 bytes a condition: variable 4 bits, attribute 3, operator 3, form 1, second variable 4, second
- *            attribute 3, zero 14, constant 32. Form 0 compares with the constant (second variable and attribute 0),
- *            form 1 with the second variable's attribute (constant 0). Attributes: 0 core, 1 type, 2 class, 3 slot,
- *            4 amount. Operators: 0 =, 1 <, 2 <=, 3 >, 4 >=. The constant is signed beside amount only.
+ *   Header         4 bits  edition: 1
+ *   8 bytes        4       n, the number of variables: 1 to 12
+ *                  8       c, the number of conditions: 32 at most
+ *                  8       zero
+ *                 40       duration in cycles
  *
- * All fields are packed most significant bit first.
+ *   Variables      4       set: 1 for the first variable; for each other one the set of the one before it, or the next.
+ *   n bytes                There are 8 sets at most, and 6 variables in a set.
+ *                  1       group flag: 1 where it may be bound more than once
+ *                  3       zero
  *
- * Answers  0 where the pattern is in order; else a refusal 1 to 4. used, readings and peak are 0.
+ *   Conditions     4       variable
+ *   8c bytes       3       attribute: core 0, type 1, class 2, slot 3, amount 4
+ *                  3       operator: = 0, < 1, <= 2, > 3, >= 4
+ *                  1       form: the right side is the constant (0) or the second variable's attribute (1)
+ *                  4       second variable; zero in form 0
+ *                  3       second attribute; zero in form 0
+ *                 14       zero
+ *                 32       constant: two's complement where the attribute is amount, else unsigned; zero in form 1
+ *
+ * Answers  0 where the pattern is in order; else a refusal 1 to 4. No counts: used, readings, peak are 0.
  */
 uint64_t spaldep_check_pattern(const uint8_t *pattern, size_t pattern_len);
 
 /*
- * Checks a block of block_len bytes: 0 to 4,096 records of 16 bytes, packed most significant bit first: kind 2 bits
- * (0 event, 1 gap), core 6, type 8, time in cycles 40, slot 32, amount 32 (two's complement), zero 8. A gap has core,
- * type and amount 0, and its slot is the number of entries lost, from 1. Each record's time is above the one before.
+ * Checks a block of block_len bytes: up to 4,096 records of 16 bytes. The fields of a record, from the most significant
+ * bit on:
+ *
+ *                  2 bits  kind: 0 an event, 1 a gap, where entries were lost
+ *                  6       core; zero in a gap
+ *                  8       type; zero in a gap. It gives an event its class: 0 up to type 15, 1 up to 31, 2 up to 63,
+ *                          3 up to 95, 4 up to 127, 5 above
+ *                 40       time in cycles, later than that of the record before
+ *                 32       slot, unsigned; in a gap how many entries were lost, 1 or more
+ *                 32       amount, two's complement; zero in a gap
+ *                  8       zero
  *
  * Answers  used: the count of records; or a refusal 5 to 7. readings and peak are 0.
  */
@@ -133,8 +151,8 @@ uint64_t spaldep_list_automaton(const uint8_t *pattern, size_t pattern_len, uint
  *            the smaller variable where two first differ: a head (spaldep_mark, spaldep_bindings), then each binding
  *            (spaldep_variable, spaldep_record), records rising.
  *
- * Answers  used: the 16-bit numbers written; readings: the readings reported; peak: the most readings live after any
- *          record. Or a refusal 1 to 8; or, at the earliest record that gives one, 9, 10 or 11.
+ * Answers  used: the 16-bit numbers written; readings: the readings reported; peak: how many readings were live after
+ *          a record, at most. Or a refusal 1 to 8; or 9, 10 or 11, of the earliest record that brings one.
  * Memory   work is all 0 after every answer, whatever its length. After success every byte of result behind the
  *          numbers written is 0; after a refusal the whole slice is, whatever its length.
  */
@@ -155,7 +173,7 @@ uint64_t spaldep_forward(const uint8_t *pattern, size_t pattern_len, const uint8
 uint64_t spaldep_start_by_start(const uint8_t *pattern, size_t pattern_len, const uint8_t *block, size_t block_len,
                                 uint8_t *result, size_t result_len);
 
-/* The answer's fields. From the high end: code 8 bits, place or used 24, readings 16, peak 16. */
+/* The answer's fields: code in the high 8 bits, then 24 bits of place or used, 16 of readings and 16 of peak. */
 static inline unsigned spaldep_code(uint64_t answer) { return (unsigned)(answer >> 56); }
 static inline uint32_t spaldep_place(uint64_t answer) {
   return answer >> 56 == 0 ? 0 : (uint32_t)(answer >> 32 & 0xffffff);

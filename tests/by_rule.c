@@ -1,8 +1,8 @@
-/* The forward pass by the reading rule itself: see reference.h. Quotations are the document's. */
+/* The forward pass by the reading rule itself: see reference.h. */
 #include <string.h>
 
-#include "document.h"
 #include "reference.h"
+#include "rules.h"
 
 static bool binds(const struct reading *r, size_t record) {
   for (size_t i = 0; i < r->count; i++)
@@ -16,9 +16,8 @@ static bool gap_between(const struct block *b, size_t above, size_t to) {
   return false;
 }
 
-/* "A partial reading is a list of one or more bindings (variable, event), events rising, each a step that fires from
-   the state before it. [..] After that, each event that isn't bound fires no step at all from the state then held. All
-   bound events lie within the duration of the first, and no gap stands between them." */
+/* Rule 5.4: each binding is to a later event than the one before, by a step that fires there. By Rule 5.6 all of them
+   are in the window and no gap is between them, and by Rule 5.5 nothing that fires was passed over. */
 static bool partial_reading(const struct pattern *p, const struct block *b, const struct reading *r) {
   if (r->count == 0) return false;
   size_t first = r->binding[0].record, last = r->binding[r->count - 1].record;
@@ -37,8 +36,7 @@ static bool partial_reading(const struct pattern *p, const struct block *b, cons
   return true;
 }
 
-/* "live if no gap stands after its first event, time(j) minus its first time is at most the duration, and no unbound
-   event since its last binding fires a step" */
+/* Rule 5.7. */
 static bool live_after(const struct pattern *p, const struct block *b, const struct reading *r, size_t j) {
   size_t last = r->binding[r->count - 1].record;
   if (last > j || gap_between(b, r->binding[0].record, j) || late(p, b, r, j)) return false;
@@ -55,6 +53,7 @@ struct by_rule {
   struct list report;
 };
 
+/* Rules 5.8 and 5.9. */
 static void judge(struct by_rule *all, const struct reading *r) {
   if (!partial_reading(all->p, all->b, r)) return;
   for (size_t j = 0; j < all->b->count; j++) {

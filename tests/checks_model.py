@@ -1,6 +1,6 @@
 #!/usr/bin/env python3
-"""What the checks of a block and of a pattern must answer, written from document 01 alone, and the table of cases
-that the program `checks` is held to. No part of the gate, which compares what the program writes with its stdout file.
+"""What the checks of a block and of a pattern must answer by the rules (docs/RULES.md), and the table of cases that the
+program `checks` is held to. No part of the gate, which compares what the program writes with its stdout file.
 
     tests/checks_model.py < crates/checks/stdin    reads a table and writes the line that each case must give
     tests/checks_model.py --write                  writes crates/checks/stdin (the table below) and crates/checks/stdout
@@ -10,7 +10,7 @@ crates/checks/src/main.rt says what a row of the table is; block_rows.rt and pat
 import os
 import sys
 
-# ---- Document 01: fields, most significant bit first ----
+# ---- Rules 1.2 and 2.1 to 2.3: fields, the highest bits first ----
 
 RECORD = (2, 6, 8, 40, 32, 32, 8)  # kind, core, type, time, slot, amount, zero
 HEADER = (4, 4, 8, 8, 40)  # edition, variables, conditions, zero, duration
@@ -29,7 +29,7 @@ def fields(data, widths):
     return found
 
 
-# ---- Document 01: the refusals ----
+# ---- Rules 8.1 to 8.7 and 8.14: the refusals ----
 
 
 def check_block(block):
@@ -182,7 +182,7 @@ LAST_RECORD = 16 * 4095
 
 BLOCKS = [
     "# Blocks: code, place, used",
-    "# The bench block of document 01",
+    "# The example block of the rules",
     BENCH_BLOCK,
     "# Lengths: 0, 1, 15, 16, 17, 31, 32 bytes",
     block(),
@@ -305,7 +305,7 @@ PATTERNS = [
     pattern([0x10]),
     pattern([0x10], duration=0),
     pattern([0x18], duration=2**40 - 1),
-    "# The bench pattern of document 01, as made here and as printed there",
+    "# The example pattern of the rules, as made here and as printed there",
     BENCH_PATTERN,
     "pattern 13 05 00 00 00 00 00 64 10 18 20 04000000 00000000 14000000 00000001 24000000 00000002"
     " 00220000 00000000 00240000 00000000",

@@ -1,6 +1,6 @@
 /*
- * compare SEED COUNT      holds the library against the reference on COUNT random cases, after the rows of document 01
- *                         and its bench with every bit and every length changed
+ * compare SEED COUNT      holds the library against the reference on COUNT random cases, after the rows of Rule 10.2
+ *                         and the bytes of Rule 10.1, the bench, with every bit and every length changed
  * compare case SEED       the one case with that seed, with its bytes
  *
  * Of each call: the answer, and every byte of the slices that it was lent. Of each case: both passes against each

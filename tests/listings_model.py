@@ -1,5 +1,5 @@
 #!/usr/bin/env python3
-"""What the program `listings` must write, from document 01 alone: its own states, steps and conditions.
+"""What the program `listings` must write by the rules (docs/RULES.md), with states, steps and conditions of its own.
 No part of the gate, which compares what the program writes with its stdout file.
 
     tests/listings_model.py            writes the lines
@@ -13,7 +13,7 @@ import os
 import sys
 
 
-# ---- Patterns, as document 01 packs them ----
+# ---- Rules 2.1 to 2.3: patterns as their bytes ----
 
 
 def header(n, c, duration, edition=1, zero=0):
@@ -105,7 +105,7 @@ CASES = [
 ]
 
 
-# ---- Document 01: the check of a pattern, and the automaton ----
+# ---- Rules 8.1 to 8.4, the check of a pattern; Rules 4.1 to 4.6, the automaton ----
 
 
 def check(data):

@@ -1,6 +1,6 @@
 #!/usr/bin/env python3
-"""What the two passes and measure must answer, written from document 01's reading rule alone, and the table of cases that
-the program `passes` is held to. No part of the gate, which compares what the program writes with its stdout file.
+"""What the two passes and measure must answer by the rules (docs/RULES.md), and the table of cases that the program
+`passes` is held to. No part of the gate, which compares what the program writes with its stdout file.
 
     tests/passes_model.py < crates/passes/stdin    reads a table and writes the lines that each case must give
     tests/passes_model.py --write                  writes crates/passes/stdin (the table below) and crates/passes/stdout
@@ -20,7 +20,7 @@ MOST_LIVE = 256
 WORK_PER_READING = 160
 PAST, END, GAP = 1, 2, 3
 
-# ---- Document 01: the reading rule. A reading is a tuple of (variable, record), oldest first. ----
+# ---- Rules 3.1 to 6.3. A reading is a tuple of (variable, record), oldest first. ----
 
 
 def value(record, attribute):
@@ -118,7 +118,7 @@ def pack(lines):
     return numbers
 
 
-# ---- Document 01: the calls. Each gives its answer, and a pass the numbers that it writes. ----
+# ---- Rules 7.5 to 7.7 and 8.8 to 8.16: each call gives its answer, and a pass the numbers that it writes. ----
 
 
 def refused(code, place):
@@ -256,7 +256,7 @@ CORE_6 = [event(12, 6)] + [event(13 + i, 6, 17) for i in range(31)] + [event(111
 CLOSE_FOUR = plain((1, 0), (1, 0), conditions=(condition(0, 2, 0, 0),), duration=5)
 FOUR_LIVE = [event(10, event_type=17), event(11), event(16)]
 
-DOCUMENT = [
+ROWS = [
     "# P1 and P3: the bench block with L 5, a limit met exactly; its result is longer than it needs",
     case(60, BENCH, [BENCH_RECORDS], limit=5),
     "# P4: L 4 is 10 at record 5",
@@ -267,7 +267,7 @@ DOCUMENT = [
     case(26, BENCH, [BENCH_RECORDS], limit=5),
     "# P7: no records",
     case(8, BENCH, []),
-    "# P8: one variable, one event, duration 0, no conditions",
+    "# P8: one event alone, with a duration of 0",
     case(8, plain((1, 0), duration=0), [event(10)], limit=1),
     "# P9: sets {0} and {1}, events at 10 and 110",
     case(8, plain((1, 0), (2, 0)), [event(10), event(110)]),
@@ -406,14 +406,14 @@ RULE = [
     case(0, GROUP, steps(33)),
     case(0, GROUP, steps(32)),
     case(4, TWO_GROUPS, [gap(5)] + BINDS + [DRAW, LATE_BIND]),
-    "# The first that fails settles it: a join that holds for one binding and not for another",
+    "# A join that holds for one binding and not for another",
     case(60, plain((1, 1), (2, 0), conditions=(condition(0, 2, 0, 0), condition(1, 2, 0, 2), condition(1, 3, 4, second=(0, 3)))), [event(10, slot=5), event(20, slot=7), event(30, event_type=33, slot=6), event(40, event_type=33, slot=7)]),
     "# One automaton and not one for each ordering: of c p d p in {c, d, p} the first p is bound, so c d p is no reading",
     case(40, THREE, [event(10), event(20, event_type=33), event(30, event_type=17), event(40, event_type=33)]),
     "# A greedy loop is not backed out of: a group variable that joins no one takes the other core's events, and is lost",
     case(40, GREEDY, [event(10, 1, 17), event(20, 2, 17), event(30, 1, 33)]),
     case(40, GREEDY, [event(10, 1, 17), event(20, 1, 17), event(30, 1, 33)]),
-    "# An event that meets no constant condition is not dropped: a variable may have none",
+    "# A variable without conditions takes any event",
     case(40, plain((1, 0), (2, 0), conditions=(condition(0, 2, 0, 0),)), [event(10), event(20, event_type=200)]),
     "# Amounts are signed, slots are not: amount < 0, amount >= -2^31, slot >= 2^31 and slot > amount, at their edges",
     *(case(20, plain((1, 0), duration=0, conditions=(condition(0, 4, 1, 0),)), [event(10, amount=a)]) for a in EDGES),
@@ -422,7 +422,7 @@ RULE = [
     *(case(20, plain((1, 0), duration=0, conditions=(condition(0, 3, 3, second=(0, 4)),)), [event(10, slot=0x7FFFFFFF, amount=a)]) for a in EDGES),
 ]
 
-TABLE = DOCUMENT + LENT + REFUSED + LIVE + RULE
+TABLE = ROWS + LENT + REFUSED + LIVE + RULE
 
 # ---- Writing ----
 

@@ -1,7 +1,7 @@
 /* The calls of reference.h but for the one by the rule: see there. */
 #include "reference.h"
 
-#include "document.h"
+#include "rules.h"
 
 /* ---- checks and the listing ---- */
 
@@ -16,6 +16,7 @@ uint64_t reference_check_block(const uint8_t *block, size_t block_len) {
   return refused != 0 ? refused : answer(0, b.count, 0, 0);
 }
 
+/* Rule 4.5. */
 static void put_step(uint8_t *listing, size_t at, const struct pattern *p, unsigned state, unsigned v) {
   uint64_t step = (uint64_t)state << 52 | (uint64_t)v << 48;
   if (order_mark(p, state, v)) step |= (uint64_t)1 << 47;
@@ -24,6 +25,7 @@ static void put_step(uint8_t *listing, size_t at, const struct pattern *p, unsig
   for (size_t i = 0; i < STEP_BYTES; i++) listing[STEP_BYTES * at + i] = (uint8_t)(step >> (56 - 8 * i) & 255);
 }
 
+/* Rules 4.6 and 7.4. */
 uint64_t reference_list_automaton(const uint8_t *pattern, size_t pattern_len, uint8_t *listing, size_t listing_len) {
   struct pattern p;
   size_t steps = 0;
@@ -41,7 +43,7 @@ uint64_t reference_list_automaton(const uint8_t *pattern, size_t pattern_len, ui
   return refusal(12, 0);
 }
 
-/* ---- the forward pass ---- */
+/* ---- the forward pass: Rules 7.5 and 8.15 ---- */
 
 /* Moves the readings of `live` that close at `at` out of it; the full ones go to the report with their marks. */
 static void close_at(const struct pattern *p, const struct block *b, struct list *live, size_t at,
@@ -84,8 +86,8 @@ static bool live_after_event(const struct pattern *p, const struct block *b, con
   return true;
 }
 
-/* 0, or the refusal; the report and the peak otherwise. Refusal 13 has no test: a binding takes a record above all
-   that are bound. */
+/* 0, or the refusal; the report and the peak otherwise. Refusal 13 (Rule 8.13) has no test: a binding takes a record
+   above all that are bound. */
 static uint64_t go_forward(const struct pattern *p, const struct block *b, size_t limit, size_t room,
                            struct list *report, size_t *peak) {
   struct list live = {0, 0, NULL};
@@ -122,7 +124,7 @@ uint64_t reference_forward(const uint8_t *pattern, size_t pattern_len, const uin
   return given;
 }
 
-/* ---- the start-by-start pass ---- */
+/* ---- the start-by-start pass and measure: Rules 7.6, 7.7 and 8.16 ---- */
 
 struct search {
   const struct pattern *p;
@@ -203,7 +205,7 @@ uint64_t reference_start_by_start(const uint8_t *pattern, size_t pattern_len, co
 
 static uint64_t stopped(uint64_t count, uint64_t largest) { return count < largest ? count : largest; }
 
-/* "each count stops at 4,294,967,295", and in the C answer at the largest number of its field */
+/* Rule 7.7. The largest numbers are those of the fields of a C answer, which are below the ones that measure has. */
 uint64_t reference_measure(const uint8_t *pattern, size_t pattern_len, const uint8_t *block, size_t block_len) {
   struct pattern p;
   struct block b;

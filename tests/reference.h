@@ -1,7 +1,11 @@
 /*
- * Document 01 in plain C, written from the document alone, to hold the library against. The calls are those of
- * include/spaldep.h under other names: the same arguments, the same answers, the same bytes in lent memory.
- * It allocates, it is slow, and it uses nothing of the library.
+ * The rules of docs/RULES.md in plain C, to hold the library against. The calls are those of include/spaldep.h under
+ * other names: the same arguments, the same answers, the same bytes in lent memory. It allocates, it is slow, and it
+ * uses nothing of the library.
+ *
+ * What is compared here was written from the rules alone, without looking at the library's code: the reference, the
+ * rows of rows.c, and the models (tests/..._model.py) that make what the test programs must write. Where library and
+ * reference differ, the rules decide.
  */
 #ifndef REFERENCE_H
 #define REFERENCE_H
@@ -20,8 +24,8 @@ uint64_t reference_measure(const uint8_t *pattern, size_t pattern_len, const uin
 
 /*
  * The forward pass once more, by no pass at all: tries every list of bindings and asks of each whether it is a
- * partial reading, live and reported, in the document's own words. Only for blocks with at most
- * reference_by_rule_lists lists; 33 bindings do not fit there, so 9 is not looked for.
+ * partial reading, live and reported, by Rules 5.1 to 5.9. Only for blocks for which reference_by_rule_lists is small:
+ * in those no reading has 33 bindings, so 9 is not looked for.
  */
 uint64_t reference_by_rule(const uint8_t *pattern, size_t pattern_len, const uint8_t *block, size_t block_len,
                            uint32_t limit, uint8_t *work, size_t work_len, uint8_t *result, size_t result_len);

@@ -1,4 +1,4 @@
-/* The rows of document 01: see rows.h. */
+/* The rows of the example: see rows.h. */
 #include "rows.h"
 
 #include <inttypes.h>
@@ -132,7 +132,7 @@ static bool row_holds(const struct implementation *i, const struct row *row) {
          result_is(result, row->numbers, row->result, by_starts ? used : 0);
 }
 
-/* P2, and the paper's example with sets {c, p+, d} and {b}. */
+/* P2, and Example 2 of the paper, whose first set is {c, p+, d} and whose second is {b}: Rule 4.7. */
 static bool listing_holds(const struct implementation *i, const char *hex, uint32_t steps, uint64_t last) {
   uint8_t pattern[512], listing[8 * SPALDEP_STEPS_MAX];
   size_t pattern_len = from_hex(hex, pattern);
@@ -146,7 +146,7 @@ static void count(const struct implementation *i, const char *name, bool holds, 
     ++*passed;
     return;
   }
-  printf("FAILED: %s of document 01, by the %s\n", name, i->name);
+  printf("FAILED: %s of the rules, by the %s\n", name, i->name);
   ++*failed;
 }
 
@@ -159,6 +159,6 @@ void rows_run(uint64_t *passed, uint64_t *failed) {
     count(i, "the example of 17 steps", listing_holds(i, "1400000000000108 10 18 10 20", 17, 0x0073800000000000),
           passed, failed);
   }
-  printf("rows of document 01, by the library and by the reference: %" PRIu64 " hold, %" PRIu64 " do not\n", *passed,
+  printf("rows of the rules, by the library and by the reference: %" PRIu64 " hold, %" PRIu64 " do not\n", *passed,
          *failed);
 }

@@ -1,11 +1,11 @@
-/* The rows that document 01 states outright, run on the library and on the reference. */
+/* The rows of Rule 10.2, and two things more that the rules settle, run on the library and on the reference. */
 #ifndef ROWS_H
 #define ROWS_H
 
 #include <stddef.h>
 #include <stdint.h>
 
-/* The bytes of document 01's bench. */
+/* The bytes of Rule 10.1. */
 size_t bench_pattern(uint8_t *pattern);
 size_t bench_block(uint8_t *block);
 

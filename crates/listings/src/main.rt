@@ -12,7 +12,7 @@ fn main() {
     refused();
 }
 
-// The bench pattern of document 01: seven steps.
+// The example pattern of the rules (Rule 10.1): seven steps.
 fn bench() {
     cases::bench(b"bench: room for its seven steps", 56);
     cases::bench(b"bench: four left-over bytes", 60);

@@ -19,6 +19,8 @@ pub mod FoundTooLong
 pub mod Inputs
 pub mod Calls
 pub mod Lent
+pub mod AtAGap
+pub mod BenchBytes
 pub mod ShutOut
 pub mod MadeUp
 pub mod ShutOutStart
@@ -27,3 +29,6 @@ pub mod ReportSound
 pub mod Accepted
 pub mod Results
 pub mod Demand3
+pub mod EventBlocks
+pub mod OneVariable
+pub mod Pretends

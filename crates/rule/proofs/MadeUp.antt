@@ -1,23 +1,23 @@
--- Made-up counts and room refusals of a forward pass are shut out: peak and readings are counts over the reading rule, and a
--- refusal for want of room is given only where the rule wants it. Assumes nothing.
+-- Made-up counts and room refusals of a forward pass are shut out, whatever it is asked: peak and readings are counts
+-- over the reading rule, and a refusal for want of room is given only where the rule wants it. Assumes nothing.
 use mathlib.Core.Path.{_≡_, refl, sym, ap, subst, _∙_}
 use mathlib.Core.Logic.{_⊎_, inl, inr}
-use mathlib.Core.List.{List}
+use mathlib.Core.List.{List, [], List·Memᴰ·head, List·Memᴰ·tail}
 use Prim.Native.Nat.{ℕ, zero, suc, _<_}
 use native.Mathlib.Omega.{arith}
 use lib.ListN.{length}
 use Rattle.records.specs.declared.Answer.{Answer}
+use Rattle.records.specs.Blocks.{refused}
 use Rattle.rule.specs.Rule.{Line, Report}
 use Rattle.rule.specs.Promises.{Outcome, LiveCount, IsPeak, TooMany, NoRoom, Forward, refusal}
-use Rattle.rule.specs.Calls.{patternIn, blockIn, roomIn, ForwardCall}
-use Rattle.rule.specs.Bench.{benchPattern, benchBlock, fullResult}
+use Rattle.rule.specs.Calls.{patternIn, blockIn, zeros, roomIn, resultOf, ForwardCall}
+use Rattle.rule.specs.Bench.{benchPattern, benchBlock, benchNumbers, fullResult, gives, P3, P4}
 use Rattle.rule.proofs.OneReport.{one-report}
 use Rattle.rule.proofs.Inputs.{input-refused}
+use Rattle.rule.proofs.Calls.{forward-one}
 use Rattle.rule.proofs.Accepted.{forward-call-told}
 use Rattle.rule.proofs.Demand3.{room-refused-only}
-use Rattle.rule.proofs.ShutOut.{Asked, Told, Pass, Meets, one-told, told-code, bench, limit5, limit5Told, limit5-call, limit5-row, limit4, limit4Told, limit4-row}
-
--- ## What success and refusal say, by the rule
+use Rattle.rule.proofs.Rows.{rows}
 
 refusal-code : (room j t : ℕ) → ¬ (refusal room j t .answer .code ≡ 0)
 refusal-code room j zero e = omega arith
@@ -25,82 +25,114 @@ refusal-code room j (suc zero) e = omega arith
 refusal-code room j (suc (suc zero)) e = omega arith
 refusal-code room j (suc (suc (suc t))) e = omega arith
 
+-- an answer with other counts of readings and peak
+abbrev pub withCounts : ℕ → ℕ → Answer → Answer
+withCounts readings peak a =
+    record { code = a .code; place = a .place; used = a .used; readings = readings; peak = peak }
+
+-- ## Of any input
+
 module _ (pattern block : List ℕ) (limit lentWork lentResult : ℕ) (a : Answer) (work result : List ℕ) where
-  most-live : ForwardCall pattern block limit lentWork lentResult a work result → a .code ≡ 0 → IsPeak (patternIn pattern) (blockIn block) (a .peak)
-  most-live (ForwardCall.refused-input n e w r) z = absurd (n (sym (ap (λ (x : Answer). x .code) e) ∙ z))
-  most-live (ForwardCall.refused-limit y n e w r) z = let q = ap (λ (x : Answer). x .code) e in absurd (omega arith)
-  most-live (ForwardCall.answered y l numbers (Forward.refuses j t k h f e) w r) z =
+  -- peak: the most readings live after any record
+  pub peak-counted : ForwardCall pattern block limit lentWork lentResult a work result → a .code ≡ 0
+      → IsPeak (patternIn pattern) (blockIn block) (a .peak)
+  peak-counted (ForwardCall.refused-input n e w r) z = absurd (n (sym (ap (λ (x : Answer). x .code) e) ∙ z))
+  peak-counted (ForwardCall.refused-limit y n e w r) z = let q = ap (λ (x : Answer). x .code) e in absurd (omega arith)
+  peak-counted (ForwardCall.answered y l numbers (Forward.refuses j t k h f e) w r) z =
       absurd (refusal-code (roomIn lentResult) j t (sym (ap (λ (x : Outcome). x .answer .code) e) ∙ z))
-  most-live (ForwardCall.answered y l numbers (Forward.succeeds lines peak n rep most e) w r) z =
+  peak-counted (ForwardCall.answered y l numbers (Forward.succeeds lines peak n rep most e) w r) z =
       subst (IsPeak (patternIn pattern) (blockIn block)) (sym (ap (λ (x : Outcome). x .answer .peak) e)) most
 
-  -- 11: what has closed at some record needs more numbers than lent
-  no-room : ForwardCall pattern block limit lentWork lentResult a work result → a .code ≡ 11 → (j : ℕ) × NoRoom (patternIn pattern) (blockIn block) (roomIn lentResult) j
-  no-room (ForwardCall.refused-input n e w r) z = let q = ap (λ (x : Answer). x .code) e in absurd (omega (arith, input-refused pattern block n .upTo))
-  no-room (ForwardCall.refused-limit y n e w r) z = let q = ap (λ (x : Answer). x .code) e in absurd (omega arith)
-  no-room (ForwardCall.answered y l numbers (Forward.succeeds lines peak n rep most e) w r) z = let q = ap (λ (x : Outcome). x .answer .code) e in absurd (omega arith)
-  no-room (ForwardCall.answered y l numbers (Forward.refuses j zero k h f e) w r) z = (j, h)
-  no-room (ForwardCall.answered y l numbers (Forward.refuses j (suc zero) k h f e) w r) z = let q = ap (λ (x : Outcome). x .answer .code) e in absurd (omega arith)
-  no-room (ForwardCall.answered y l numbers (Forward.refuses j (suc (suc zero)) k h f e) w r) z = let q = ap (λ (x : Outcome). x .answer .code) e in absurd (omega arith)
-  no-room (ForwardCall.answered y l numbers (Forward.refuses j (suc (suc (suc t))) k h f e) w r) z = let q = ap (λ (x : Outcome). x .answer .code) e in absurd (omega arith)
-
--- ## Made-up counts
-
-module _ (pass : Pass) (meets : Meets pass) (i : Asked) where
-  -- peak: the most readings live after any record
-  pub peak-counted : pass i .answer .code ≡ 0 → IsPeak (patternIn (i .pattern)) (blockIn (i .block)) (pass i .answer .peak)
-  peak-counted z =
-      most-live (i .pattern) (i .block) (i .limit) (length (i .work)) (length (i .result)) (pass i .answer) (pass i .work) (pass i .result) (meets i) z
-
   -- readings: as many as the rule reports
-  pub readings-counted : pass i .answer .code ≡ 0 → (l : List Line) → Report (patternIn (i .pattern)) (blockIn (i .block)) (length (blockIn (i .block))) l → pass i .answer .readings ≡ length l
-  readings-counted z l r =
-      let q = forward-call-told (i .pattern) (i .block) (i .limit) (length (i .work)) (length (i .result)) (pass i .answer) (pass i .work) (pass i .result) (meets i) z .told in
-      q .readings ∙ ap length (one-report (patternIn (i .pattern)) (blockIn (i .block)) (length (blockIn (i .block))) (q .lines) l (q .report) r)
+  pub readings-counted : ForwardCall pattern block limit lentWork lentResult a work result → a .code ≡ 0
+      → (l : List Line) → Report (patternIn pattern) (blockIn block) (length (blockIn block)) l → a .readings ≡ length l
+  readings-counted met z l r =
+      let q = forward-call-told pattern block limit lentWork lentResult a work result met z .told in
+      q .readings
+      ∙ ap length (one-report (patternIn pattern) (blockIn block) (length (blockIn block)) (q .lines) l (q .report) r)
 
--- a pass with other counts of readings and peak
-abbrev withCounts : (readings peak : Asked → ℕ) → Pass → Pass
-withCounts readings peak pass i = record {
-  answer = record { code = pass i .answer .code; place = pass i .answer .place; used = pass i .answer .used; readings = readings i; peak = peak i };
-  work = pass i .work;
-  result = pass i .result;
-}
+  -- a made-up peak or readings count: any that differs from the right one
+  pub made-up-counts : (readings peak : ℕ) (otherWork otherResult : List ℕ)
+      → ¬ ((readings ≡ a .readings) × (peak ≡ a .peak))
+      → ForwardCall pattern block limit lentWork lentResult a work result
+      → ¬ ForwardCall pattern block limit lentWork lentResult (withCounts readings peak a) otherWork otherResult
+  made-up-counts readings peak otherWork otherResult n right wrong =
+      let q = forward-one pattern block limit lentWork lentResult _ a otherWork work otherResult result wrong right in
+      n (ap (λ (x : Answer). x .readings) (q .0), ap (λ (x : Answer). x .peak) (q .0))
 
--- A made-up peak or readings count is shut out: any that differs anywhere.
-pub made-up-counts : (right : Pass) (readings peak : Asked → ℕ) (i : Asked) → ¬ ((readings i ≡ right i .answer .readings) × (peak i ≡ right i .answer .peak)) → Meets right → ¬ Meets (withCounts readings peak right)
-made-up-counts right readings peak i n m w =
-    let q = one-told i (withCounts readings peak right i) (right i) (w i) (m i) in
-    n (ap (λ (o : Told). o .answer .readings) q, ap (λ (o : Told). o .answer .peak) q)
+  -- one more than the right peak
+  pub raised-peak : ForwardCall pattern block limit lentWork lentResult a work result
+      → ¬ ForwardCall pattern block limit lentWork lentResult (withCounts (a .readings) (suc (a .peak)) a) work result
+  raised-peak = made-up-counts (a .readings) (suc (a .peak)) work result (λ e. omega (arith, e .1))
 
--- one more than the right peak
-pub raised-peak : (right : Pass) → Meets right → ¬ Meets (withCounts (λ i. right i .answer .readings) (λ i. suc (right i .answer .peak)) right)
-raised-peak right = made-up-counts right (λ i. right i .answer .readings) (λ i. suc (right i .answer .peak)) (bench 0) (λ e. omega (arith, e .1))
+  -- one more reading than the right count
+  pub raised-readings : ForwardCall pattern block limit lentWork lentResult a work result
+      → ¬ ForwardCall pattern block limit lentWork lentResult (withCounts (suc (a .readings)) (a .peak) a) work result
+  raised-readings = made-up-counts (suc (a .readings)) (a .peak) work result (λ e. omega (arith, e .0))
 
--- one more reading than the right count
-pub raised-readings : (right : Pass) → Meets right → ¬ Meets (withCounts (λ i. suc (right i .answer .readings)) (λ i. right i .answer .peak) right)
-raised-readings right = made-up-counts right (λ i. suc (right i .answer .readings)) (λ i. right i .answer .peak) (bench 0) (λ e. omega (arith, e .0))
+  -- a made-up room refusal: 10 with a record after which not more than L stand live
+  pub made-up-room : a .code ≡ 10 → ¬ TooMany (patternIn pattern) (blockIn block) limit (a .place)
+      → ¬ ForwardCall pattern block limit lentWork lentResult a work result
+  made-up-room z n met =
+      n (room-refused-only pattern block limit lentWork lentResult a work result met z .many)
 
--- ## A made-up room refusal
+  -- 11: what has closed at some record needs more numbers than lent
+  no-room : ForwardCall pattern block limit lentWork lentResult a work result → a .code ≡ 11
+      → (j : ℕ) × NoRoom (patternIn pattern) (blockIn block) (roomIn lentResult) j
+  no-room (ForwardCall.refused-input n e w r) z =
+      absurd (omega (arith, ap (λ (x : Answer). x .code) e, input-refused pattern block n .upTo))
+  no-room (ForwardCall.refused-limit y n e w r) z = let q = ap (λ (x : Answer). x .code) e in absurd (omega arith)
+  no-room (ForwardCall.answered y l numbers (Forward.succeeds lines peak n rep most e) w r) z =
+      let q = ap (λ (x : Outcome). x .answer .code) e in absurd (omega arith)
+  no-room (ForwardCall.answered y l numbers (Forward.refuses j zero k h f e) w r) z = (j, h)
+  no-room (ForwardCall.answered y l numbers (Forward.refuses j (suc zero) k h f e) w r) z =
+      let q = ap (λ (x : Outcome). x .answer .code) e in absurd (omega arith)
+  no-room (ForwardCall.answered y l numbers (Forward.refuses j (suc (suc zero)) k h f e) w r) z =
+      let q = ap (λ (x : Outcome). x .answer .code) e in absurd (omega arith)
+  no-room (ForwardCall.answered y l numbers (Forward.refuses j (suc (suc (suc t))) k h f e) w r) z =
+      let q = ap (λ (x : Outcome). x .answer .code) e in absurd (omega arith)
 
--- 10 with a record after which not more than L stand live
-pub made-up-room : (pass : Pass) (i : Asked) → pass i .answer .code ≡ 10 → ¬ TooMany (patternIn (i .pattern)) (blockIn (i .block)) (i .limit) (pass i .answer .place) → ¬ Meets pass
-made-up-room pass i z n meets =
-    n (room-refused-only (i .pattern) (i .block) (i .limit) (length (i .work)) (length (i .result)) (pass i .answer) (pass i .work) (pass i .result) (meets i) z .many)
+  -- 11 where what has closed at any record fits the result
+  pub made-up-full : a .code ≡ 11
+      → ((j : ℕ) → ¬ NoRoom (patternIn pattern) (blockIn block) (roomIn lentResult) j)
+      → ¬ ForwardCall pattern block limit lentWork lentResult a work result
+  made-up-full z n met = let q = no-room met z in n (q .0) (q .1)
 
--- 10 where as many as L stand live after some record: P3 has 5 live with L 5
-pub refuses-at-limit : (pass : Pass) → ((i : Asked) (j : ℕ) → LiveCount (patternIn (i .pattern)) (blockIn (i .block)) j (i .limit) → pass i .answer .code ≡ 10) → ¬ Meets pass
-refuses-at-limit pass h meets = go (most-live benchPattern benchBlock 5 800 fullResult (limit5Told .answer) (limit5Told .work) (limit5Told .result) limit5-call refl .reached)
+-- ## Of the bench block, with limits 5 and 4
+
+abbrev pub OfLimit5 : Answer → List ℕ → List ℕ → Type 0
+OfLimit5 answer work result = ForwardCall benchPattern benchBlock 5 800 fullResult answer work result
+
+abbrev pub OfLimit4 : Answer → List ℕ → List ℕ → Type 0
+OfLimit4 answer work result = ForwardCall benchPattern benchBlock 4 640 fullResult answer work result
+
+-- P3
+limit5-row : OfLimit5 (gives 14 3 5 [] .answer) (zeros 800) (resultOf fullResult benchNumbers)
+limit5-row = rows P3 (search (List·Memᴰ·head, List·Memᴰ·tail) depth 16) .0
+
+-- P4
+limit4-row : OfLimit4 (refused 10 5) (zeros 640) (resultOf fullResult [])
+limit4-row = rows P4 (search (List·Memᴰ·head, List·Memᴰ·tail) depth 16) .0
+
+-- five readings are live after some record of the block
+pub five-live : (j : ℕ) × LiveCount (patternIn benchPattern) (blockIn benchBlock) j 5
+five-live = go (peak-counted benchPattern benchBlock 5 800 fullResult _ _ _ limit5-row refl .reached)
   where
-    go : (_≡_ {A = ℕ} 5 0) ⊎ ((j : ℕ) × (j < length (blockIn benchBlock)) × LiveCount (patternIn benchPattern) (blockIn benchBlock) j 5) → ⊥
-    go (inl e) = omega arith
-    go (inr (j, l, c)) = let q = h limit5 j c in let r = told-code pass meets limit5 limit5Told limit5-row in omega arith
+    go : (_≡_ {A = ℕ} 5 0)
+        ⊎ ((j : ℕ) × (j < length (blockIn benchBlock)) × LiveCount (patternIn benchPattern) (blockIn benchBlock) j 5)
+        → (j : ℕ) × LiveCount (patternIn benchPattern) (blockIn benchBlock) j 5
+    go (inl e) = absurd (omega arith)
+    go (inr (j, l, c)) = (j, c)
 
--- and one that never gives 10: P4
-pub never-short : (pass : Pass) → ((i : Asked) → ¬ (pass i .answer .code ≡ 10)) → ¬ Meets pass
-never-short pass h meets = h limit4 (told-code pass meets limit4 limit4Told limit4-row)
+module _ (answer : Answer) (work result : List ℕ) where
+  -- so one that gives 10 where as many as L stand live is shut out,
+  pub refuses-at-limit : answer .code ≡ 10 → ¬ OfLimit5 answer work result
+  refuses-at-limit z met =
+      let q = forward-one benchPattern benchBlock 5 800 fullResult answer _ work _ result _ met limit5-row in
+      omega (arith, z, ap (λ (a : Answer). a .code) (q .0))
 
--- 11 where what has closed at any record fits the result
-pub made-up-full : (pass : Pass) (i : Asked) → pass i .answer .code ≡ 11 → ((j : ℕ) → ¬ NoRoom (patternIn (i .pattern)) (blockIn (i .block)) (roomIn (length (i .result))) j) → ¬ Meets pass
-made-up-full pass i z n meets =
-    let q = no-room (i .pattern) (i .block) (i .limit) (length (i .work)) (length (i .result)) (pass i .answer) (pass i .work) (pass i .result) (meets i) z in
-    n (q .0) (q .1)
+  -- and one that never gives 10
+  pub never-short : ¬ (answer .code ≡ 10) → ¬ OfLimit4 answer work result
+  never-short n met =
+      let q = forward-one benchPattern benchBlock 4 640 fullResult answer _ work _ result _ met limit4-row in
+      n (ap (λ (a : Answer). a .code) (q .0))

@@ -1,10 +1,11 @@
--- Wrong measures, checks of patterns and blocks, and listings are shut out: one that refuses all, that accepts all, that counts
--- nothing or always the same, makes its counts up, or leaves the slice untouched. Assumes nothing.
-use mathlib.Core.Path.{_≡_, refl, sym, ap, subst, _∙_}
+-- Wrong measures, checks of patterns and blocks, and listings are shut out: one that refuses all, that accepts all,
+-- that counts nothing or always the same, makes its counts up, or leaves the slice untouched. Each of them answers the
+-- bytes of the bench, no bytes or one byte as the promise does not allow (proofs/BenchBytes). Assumes nothing.
+use mathlib.Core.Path.{_≡_, refl, sym, ap, _∙_}
 use mathlib.Core.List.{List, [], _∷_, List·Memᴰ·head, List·Memᴰ·tail}
 use Prim.Native.Nat.{ℕ, min}
 use native.Mathlib.Omega.{arith}
-use lib.ListN.{length, getD, replicate, length-replicate}
+use lib.ListN.{length, getD, replicate}
 use Rattle.records.specs.declared.Answer.{Answer}
 use Rattle.records.specs.Blocks.{misfit, blockAnswer}
 use Rattle.patterns.specs.declared.Checked.{Checked}
@@ -15,7 +16,8 @@ use Rattle.automaton.proofs.Promise.{listing-promise-unique}
 use Rattle.rule.specs.Rule.{Line, Report, pack}
 use Rattle.rule.specs.Promises.{Measure, mostCounted}
 use Rattle.rule.specs.Calls.{inputAnswer, patternIn, blockIn, MeasureCall}
-use Rattle.rule.specs.Bench.{benchPattern, benchBlock, onePattern, benchSteps, gives, listingOf, P1, P2, P7, oneStep}
+use Rattle.rule.specs.Bench.{benchPattern, benchBlock, onePattern, benchSteps, gives, listingOf}
+use Rattle.rule.specs.Bench.{P1, P2, P7, oneStep}
 use Rattle.rule.proofs.OneReport.{one-report}
 use Rattle.rule.proofs.Inputs.{input-accepts, input-refused}
 use Rattle.rule.proofs.Calls.{measure-one}
@@ -23,95 +25,84 @@ use Rattle.rule.proofs.Rows.{rows}
 
 -- ## Measure
 
-abbrev pub Measures : Type 0
-Measures = (pattern block : List ℕ) → Answer
-
--- the promise is met at every input
-abbrev pub MeetsMeasure : Measures → Type 0
-MeetsMeasure measure = (pattern block : List ℕ) → MeasureCall pattern block (measure pattern block)
-
 bench-call : MeasureCall benchPattern benchBlock (gives 14 3 0 [] .answer)
 bench-call = rows P1 (List·Memᴰ·head refl) .2
 
-empty-call : MeasureCall benchPattern [] (gives 0 0 0 [] .answer)
-empty-call = rows P7 (search (List·Memᴰ·head, List·Memᴰ·tail) depth 16) .2
+nothing-call : MeasureCall benchPattern [] (gives 0 0 0 [] .answer)
+nothing-call = rows P7 (search (List·Memᴰ·head, List·Memᴰ·tail) depth 16) .2
 
-module _ (measure : Measures) (meets : MeetsMeasure measure) where
-  bench-is : measure benchPattern benchBlock ≡ gives 14 3 0 [] .answer
-  bench-is = measure-one benchPattern benchBlock (measure benchPattern benchBlock) (gives 14 3 0 [] .answer) (meets benchPattern benchBlock) bench-call
+module _ (a : Answer) where
+  bench-told : MeasureCall benchPattern benchBlock a → a ≡ gives 14 3 0 [] .answer
+  bench-told met = measure-one benchPattern benchBlock a (gives 14 3 0 [] .answer) met bench-call
 
-  empty-is : measure benchPattern [] ≡ gives 0 0 0 [] .answer
-  empty-is = measure-one benchPattern [] (measure benchPattern []) (gives 0 0 0 [] .answer) (meets benchPattern []) empty-call
+  nothing-told : MeasureCall benchPattern [] a → a ≡ gives 0 0 0 [] .answer
+  nothing-told met = measure-one benchPattern [] a (gives 0 0 0 [] .answer) met nothing-call
 
--- one that refuses all
-pub measure-refuses-all : (measure : Measures) → ((pattern block : List ℕ) → ¬ (measure pattern block .code ≡ 0)) → ¬ MeetsMeasure measure
-measure-refuses-all measure h meets = h benchPattern benchBlock (ap (λ (a : Answer). a .code) (bench-is measure meets))
+  -- one that refuses all
+  pub measure-refuses-all : ¬ (a .code ≡ 0) → ¬ MeasureCall benchPattern benchBlock a
+  measure-refuses-all n met = n (ap (λ (x : Answer). x .code) (bench-told met))
 
--- one that always counts nothing: no readings, or no numbers
-pub measure-counts-nothing : (measure : Measures) → ((pattern block : List ℕ) → measure pattern block .readings ≡ 0) → ¬ MeetsMeasure measure
-measure-counts-nothing measure h meets = let q = ap (λ (a : Answer). a .readings) (bench-is measure meets) in omega (arith, h benchPattern benchBlock)
+  -- one that always counts nothing: no readings, or no numbers
+  pub measure-counts-nothing : a .readings ≡ 0 → ¬ MeasureCall benchPattern benchBlock a
+  measure-counts-nothing z met = omega (arith, z, ap (λ (x : Answer). x .readings) (bench-told met))
 
-pub measure-uses-nothing : (measure : Measures) → ((pattern block : List ℕ) → measure pattern block .used ≡ 0) → ¬ MeetsMeasure measure
-measure-uses-nothing measure h meets = let q = ap (λ (a : Answer). a .used) (bench-is measure meets) in omega (arith, h benchPattern benchBlock)
+  pub measure-uses-nothing : a .used ≡ 0 → ¬ MeasureCall benchPattern benchBlock a
+  measure-uses-nothing z met = omega (arith, z, ap (λ (x : Answer). x .used) (bench-told met))
 
--- or a fixed answer, wherever it succeeds
-pub measure-fixed : (measure : Measures) (a : Answer) → ((pattern block : List ℕ) → measure pattern block .code ≡ 0 → measure pattern block ≡ a) → ¬ MeetsMeasure measure
-measure-fixed measure a h meets =
-    let e = bench-is measure meets in
-    let d = empty-is measure meets in
-    let q = ap (λ (x : Answer). x .readings) (sym e ∙ h benchPattern benchBlock (ap (λ (x : Answer). x .code) e)) in
-    let r = ap (λ (x : Answer). x .readings) (sym d ∙ h benchPattern [] (ap (λ (x : Answer). x .code) d)) in
-    omega arith
+-- or always the same: of the bench block and of no records it must succeed, and with answers that differ
+module _ (a b : Answer) where
+  pub measure-fixed-accepts : MeasureCall benchPattern benchBlock a → MeasureCall benchPattern [] b
+      → (a .code ≡ 0) × (b .code ≡ 0)
+  measure-fixed-accepts met alsoMet =
+      (ap (λ (x : Answer). x .code) (bench-told a met), ap (λ (x : Answer). x .code) (nothing-told b alsoMet))
 
--- ## Made-up counts of measure
+  pub measure-fixed : a ≡ b → MeasureCall benchPattern benchBlock a → ¬ MeasureCall benchPattern [] b
+  measure-fixed e met alsoMet =
+      let q = sym (bench-told a met) ∙ e ∙ nothing-told b alsoMet in
+      let r : _≡_ {A = ℕ} 3 0 = ap (λ (x : Answer). x .readings) q in
+      omega arith
 
--- Measure gives readings and used of the start-by-start pass; each count stops at 4,294,967,295.
-counted : (pattern block : List ℕ) (a : Answer) → MeasureCall pattern block a → a .code ≡ 0 → (l : List Line) → Report (patternIn pattern) (blockIn block) (length (blockIn block)) l
-    → (a .readings ≡ min (length l) mostCounted) × (a .used ≡ min (length (pack l)) mostCounted)
-counted pattern block a (MeasureCall.refused-input n e) z l r = absurd (n (sym (ap (λ (x : Answer). x .code) e) ∙ z))
-counted pattern block a (MeasureCall.answered y (Measure.long j t f e)) z l r = let q = ap (λ (x : Answer). x .code) e in absurd (omega arith)
-counted pattern block a (MeasureCall.answered y (Measure.twice j n t f e)) z l r = let q = ap (λ (x : Answer). x .code) e in absurd (omega arith)
-counted pattern block a (MeasureCall.answered y (Measure.done m n k rep e)) z l r =
-    let q = one-report (patternIn pattern) (blockIn block) (length (blockIn block)) m l rep r in (
-      ap (λ (x : Answer). x .readings) e ∙ ap (λ (x : List Line). min (length x) mostCounted) q,
-      ap (λ (x : Answer). x .used) e ∙ ap (λ (x : List Line). min (length (pack x)) mostCounted) q,
-    )
-
-module _ (measure : Measures) (meets : MeetsMeasure measure) (pattern block : List ℕ) where
-  -- both are counts over the reading rule
-  pub measure-counted : measure pattern block .code ≡ 0 → (l : List Line) → Report (patternIn pattern) (blockIn block) (length (blockIn block)) l
-      → (measure pattern block .readings ≡ min (length l) mostCounted) × (measure pattern block .used ≡ min (length (pack l)) mostCounted)
-  measure-counted = counted pattern block (measure pattern block) (meets pattern block)
+-- ## Made-up counts of measure, of any input
 
 -- a measure with other counts
-abbrev withCounts : (used readings : List ℕ → List ℕ → ℕ) → Measures → Measures
-withCounts used readings measure pattern block = record {
-  code = measure pattern block .code;
-  place = measure pattern block .place;
-  used = used pattern block;
-  readings = readings pattern block;
-  peak = measure pattern block .peak;
-}
+abbrev pub withMeasured : ℕ → ℕ → Answer → Answer
+withMeasured used readings a =
+    record { code = a .code; place = a .place; used = used; readings = readings; peak = a .peak }
 
--- Made-up counts are shut out: any that differ anywhere.
-pub measure-made-up : (right : Measures) (used readings : List ℕ → List ℕ → ℕ) (pattern block : List ℕ)
-    → ¬ ((used pattern block ≡ right pattern block .used) × (readings pattern block ≡ right pattern block .readings))
-    → MeetsMeasure right
-    → ¬ MeetsMeasure (withCounts used readings right)
-measure-made-up right used readings pattern block n m w =
-    let q = measure-one pattern block (withCounts used readings right pattern block) (right pattern block) (w pattern block) (m pattern block) in
-    n (ap (λ (a : Answer). a .used) q, ap (λ (a : Answer). a .readings) q)
+module _ (pattern block : List ℕ) (a : Answer) where
+  -- Both are counts over the reading rule; each stops at 4,294,967,295.
+  pub measure-counted : MeasureCall pattern block a → a .code ≡ 0
+      → (l : List Line) → Report (patternIn pattern) (blockIn block) (length (blockIn block)) l
+      → (a .readings ≡ min (length l) mostCounted) × (a .used ≡ min (length (pack l)) mostCounted)
+  measure-counted (MeasureCall.refused-input n e) z l r = absurd (n (sym (ap (λ (x : Answer). x .code) e) ∙ z))
+  measure-counted (MeasureCall.answered y (Measure.long j t f e)) z l r =
+      let q = ap (λ (x : Answer). x .code) e in absurd (omega arith)
+  measure-counted (MeasureCall.answered y (Measure.twice j n t f e)) z l r =
+      let q = ap (λ (x : Answer). x .code) e in absurd (omega arith)
+  measure-counted (MeasureCall.answered y (Measure.done m n k rep e)) z l r =
+      let q = one-report (patternIn pattern) (blockIn block) (length (blockIn block)) m l rep r in (
+        ap (λ (x : Answer). x .readings) e ∙ ap (λ (x : List Line). min (length x) mostCounted) q,
+        ap (λ (x : Answer). x .used) e ∙ ap (λ (x : List Line). min (length (pack x)) mostCounted) q,
+      )
 
--- measure refuses as the start-by-start pass does, but never 11
-full : (pattern block : List ℕ) (a : Answer) → MeasureCall pattern block a → ¬ (a .code ≡ 11)
-full pattern block a (MeasureCall.refused-input n e) z =
-    let q = input-refused pattern block n in omega (arith, q .upTo, ap (λ (x : Answer). x .code) e)
-full pattern block a (MeasureCall.answered y (Measure.long j t f e)) z = let q = ap (λ (x : Answer). x .code) e in omega arith
-full pattern block a (MeasureCall.answered y (Measure.twice j n t f e)) z = let q = ap (λ (x : Answer). x .code) e in omega arith
-full pattern block a (MeasureCall.answered y (Measure.done m n k rep e)) z = let q = ap (λ (x : Answer). x .code) e in omega arith
+  -- made-up counts: any that differ from the right ones
+  pub measure-made-up : (used readings : ℕ) → ¬ ((used ≡ a .used) × (readings ≡ a .readings))
+      → MeasureCall pattern block a
+      → ¬ MeasureCall pattern block (withMeasured used readings a)
+  measure-made-up used readings n right wrong =
+      let q = measure-one pattern block (withMeasured used readings a) a wrong right in
+      n (ap (λ (x : Answer). x .used) q, ap (λ (x : Answer). x .readings) q)
 
-pub measure-full : (measure : Measures) (pattern block : List ℕ) → measure pattern block .code ≡ 11 → ¬ MeetsMeasure measure
-measure-full measure pattern block z meets = full pattern block (measure pattern block) (meets pattern block) z
+  -- measure refuses as the start-by-start pass does, but never 11
+  pub measure-full : a .code ≡ 11 → ¬ MeasureCall pattern block a
+  measure-full z (MeasureCall.refused-input n e) =
+      let q = input-refused pattern block n in omega (arith, q .upTo, ap (λ (x : Answer). x .code) e)
+  measure-full z (MeasureCall.answered y (Measure.long j t f e)) =
+      let q = ap (λ (x : Answer). x .code) e in omega arith
+  measure-full z (MeasureCall.answered y (Measure.twice j n t f e)) =
+      let q = ap (λ (x : Answer). x .code) e in omega arith
+  measure-full z (MeasureCall.answered y (Measure.done m n k rep e)) =
+      let q = ap (λ (x : Answer). x .code) e in omega arith
 
 -- ## The checks
 
@@ -122,85 +113,76 @@ bench-accepted = go bench-call
     go (MeasureCall.refused-input n e) = sym (ap (λ (a : Answer). a .code) e)
     go (MeasureCall.answered z h) = z
 
--- check_pattern promises this of every list of bytes
-abbrev pub ChecksPattern : (List ℕ → Checked) → Type 0
-ChecksPattern check = (bytes : List ℕ) → check bytes ≡ patternAnswer bytes
+-- check_pattern promises `patternAnswer` of every list of bytes: the bench pattern is accepted, no bytes at all are not
+module _ (checked : Checked) where
+  pub pattern-refuses-all : ¬ (checked .code ≡ 0) → ¬ (checked ≡ patternAnswer benchPattern)
+  pattern-refuses-all n e =
+      n (ap (λ (a : Checked). a .code) e ∙ input-accepts benchPattern benchBlock bench-accepted .0)
 
-pub pattern-refuses-all : (check : List ℕ → Checked) → ((bytes : List ℕ) → ¬ (check bytes .code ≡ 0)) → ¬ ChecksPattern check
-pattern-refuses-all check h meets =
-    h benchPattern (ap (λ (a : Checked). a .code) (meets benchPattern) ∙ input-accepts benchPattern benchBlock bench-accepted .0)
+  pub pattern-accepts-all : checked .code ≡ 0 → ¬ (checked ≡ patternAnswer [])
+  unfolding patternAnswer
+  pattern-accepts-all z e = let q : checked .code ≡ 1 = ap (λ (a : Checked). a .code) e in omega arith
 
-pub pattern-accepts-all : (check : List ℕ → Checked) → ((bytes : List ℕ) → check bytes .code ≡ 0) → ¬ ChecksPattern check
-unfolding patternAnswer
-pattern-accepts-all check h meets =
-    let q : check [] .code ≡ 1 = ap (λ (a : Checked). a .code) (meets []) in omega (arith, h [])
+-- check_block promises `blockAnswer`: the bench block is accepted, a single byte is not
+module _ (checked : Answer) where
+  pub block-refuses-all : ¬ (checked .code ≡ 0) → ¬ (checked ≡ blockAnswer benchBlock)
+  block-refuses-all n e =
+      n (ap (λ (a : Answer). a .code) e ∙ input-accepts benchPattern benchBlock bench-accepted .1)
 
--- check_block promises this of every list of bytes
-abbrev pub ChecksBlock : (List ℕ → Answer) → Type 0
-ChecksBlock check = (bytes : List ℕ) → check bytes ≡ blockAnswer bytes
-
-pub block-refuses-all : (check : List ℕ → Answer) → ((bytes : List ℕ) → ¬ (check bytes .code ≡ 0)) → ¬ ChecksBlock check
-block-refuses-all check h meets =
-    h benchBlock (ap (λ (a : Answer). a .code) (meets benchBlock) ∙ input-accepts benchPattern benchBlock bench-accepted .1)
-
-pub block-accepts-all : (check : List ℕ → Answer) → ((bytes : List ℕ) → check bytes .code ≡ 0) → ¬ ChecksBlock check
-unfolding blockAnswer misfit
-block-accepts-all check h meets =
-    let q : check (0 ∷ []) .code ≡ 5 = ap (λ (a : Answer). a .code) (meets (0 ∷ [])) in omega (arith, h (0 ∷ []))
+  pub block-accepts-all : checked .code ≡ 0 → ¬ (checked ≡ blockAnswer (0 ∷ []))
+  unfolding blockAnswer misfit
+  block-accepts-all z e = let q : checked .code ≡ 5 = ap (λ (a : Answer). a .code) e in omega arith
 
 -- ## The listing
 
--- from the bytes of the pattern and what the slice holds before the call, to the answer and what the slice holds after it
-pub record Listed : Type 0 where
-  pub answer : Answer
-  pub after : List ℕ
+-- the answer and the slice after a call that lends 56 bytes, room for the bench pattern's seven steps
+abbrev pub ListsBench : Answer → List ℕ → Type 0
+ListsBench answer after = ListingPromise benchPattern 56 answer after
 
-abbrev pub Lists : Type 0
-Lists = (pattern before : List ℕ) → Listed
+-- of the pattern of one variable, which has one step
+abbrev pub ListsOne : Answer → List ℕ → Type 0
+ListsOne answer after = ListingPromise onePattern 56 answer after
 
-abbrev pub MeetsListing : Lists → Type 0
-MeetsListing list = (pattern before : List ℕ) → ListingPromise pattern (length before) (list pattern before .answer) (list pattern before .after)
+module _ (answer : Answer) (after : List ℕ) where
+  bench-listed : ListsBench answer after → (answer ≡ stepsListed 7) × (after ≡ listingOf 56 benchSteps)
+  bench-listed met =
+      listing-promise-unique benchPattern 56 answer (stepsListed 7) after (listingOf 56 benchSteps) met
+      (rows P2 (search (List·Memᴰ·head, List·Memᴰ·tail) depth 16))
 
-module _ (list : Lists) (meets : MeetsListing list) (x : ℕ) where
-  -- what it lists in a slice full of the byte x
-  lists-as : (pattern : List ℕ) (lent : ℕ) (answer : Answer) (after : List ℕ) → ListingPromise pattern lent answer after → (list pattern (replicate lent x) .answer ≡ answer) × (list pattern (replicate lent x) .after ≡ after)
-  lists-as pattern lent answer after h =
-      listing-promise-unique pattern lent (list pattern (replicate lent x) .answer) answer (list pattern (replicate lent x) .after) after
-      (subst (λ n. ListingPromise pattern n (list pattern (replicate lent x) .answer) (list pattern (replicate lent x) .after)) (length-replicate lent x) (meets pattern (replicate lent x)))
-      h
+  one-listed : ListsOne answer after → (answer ≡ stepsListed 1) × (after ≡ listingOf 56 (0 ∷ []))
+  one-listed met =
+      listing-promise-unique onePattern 56 answer (stepsListed 1) after (listingOf 56 (0 ∷ [])) met
+      (rows oneStep (search (List·Memᴰ·head, List·Memᴰ·tail) depth 16))
 
-  bench-listed : (list benchPattern (replicate 56 x) .answer ≡ stepsListed 7) × (list benchPattern (replicate 56 x) .after ≡ listingOf 56 benchSteps)
-  bench-listed = lists-as benchPattern 56 (stepsListed 7) (listingOf 56 benchSteps) (rows P2 (search (List·Memᴰ·head, List·Memᴰ·tail) depth 16))
+  -- one that refuses all
+  pub listing-refuses-all : ¬ (answer .code ≡ 0) → ¬ ListsBench answer after
+  listing-refuses-all n met = n (ap (λ (a : Answer). a .code) (bench-listed met .0))
 
-  one-listed : (list onePattern (replicate 56 x) .answer ≡ stepsListed 1) × (list onePattern (replicate 56 x) .after ≡ listingOf 56 (0 ∷ []))
-  one-listed = lists-as onePattern 56 (stepsListed 1) (listingOf 56 (0 ∷ [])) (rows oneStep (search (List·Memᴰ·head, List·Memᴰ·tail) depth 16))
+  -- one that leaves the slice untouched, each byte of it 1 before the call
+  pub listing-untouched : after ≡ replicate 56 1 → ¬ ListsBench answer after
+  unfolding collect wordBytes
+  listing-untouched e met =
+      let z : _≡_ {A = ℕ} 1 0 = ap (λ l. getD l 0 0) (sym e ∙ bench-listed met .1) in omega arith
 
--- one that refuses all
-pub listing-refuses-all : (list : Lists) → ((pattern before : List ℕ) → ¬ (list pattern before .answer .code ≡ 0)) → ¬ MeetsListing list
-listing-refuses-all list h meets = h benchPattern (replicate 56 0) (ap (λ (a : Answer). a .code) (bench-listed list meets 0 .0))
+-- one that always lists the same: of both patterns it must succeed, and neither its answer nor its slice may be the
+-- same
+module _ (answer other : Answer) (after otherAfter : List ℕ) where
+  pub listing-fixed-accepts : ListsBench answer after → ListsOne other otherAfter
+      → (answer .code ≡ 0) × (other .code ≡ 0)
+  listing-fixed-accepts met alsoMet = (
+    ap (λ (a : Answer). a .code) (bench-listed answer after met .0),
+    ap (λ (a : Answer). a .code) (one-listed other otherAfter alsoMet .0),
+  )
 
--- one that lists the same, wherever it succeeds: the same answer, or the same slice for each length lent
-pub listing-fixed-answer : (list : Lists) (a : Answer) → ((pattern before : List ℕ) → list pattern before .answer .code ≡ 0 → list pattern before .answer ≡ a) → ¬ MeetsListing list
-listing-fixed-answer list a h meets =
-    let e = bench-listed list meets 0 .0 in
-    let d = one-listed list meets 0 .0 in
-    let q = ap (λ (x : Answer). x .used) (sym e ∙ h benchPattern (replicate 56 0) (ap (λ (x : Answer). x .code) e)) in
-    let r = ap (λ (x : Answer). x .used) (sym d ∙ h onePattern (replicate 56 0) (ap (λ (x : Answer). x .code) d)) in
-    omega arith
+  pub listing-fixed-answer : answer ≡ other → ListsBench answer after → ¬ ListsOne other otherAfter
+  listing-fixed-answer e met alsoMet =
+      let q = sym (bench-listed answer after met .0) ∙ e ∙ one-listed other otherAfter alsoMet .0 in
+      let r : _≡_ {A = ℕ} 7 1 = ap (λ (a : Answer). a .used) q in
+      omega arith
 
-pub listing-fixed : (list : Lists) (after : ℕ → List ℕ) → ((pattern before : List ℕ) → list pattern before .answer .code ≡ 0 → list pattern before .after ≡ after (length before)) → ¬ MeetsListing list
-unfolding collect wordBytes
-listing-fixed list after h meets =
-    let e = bench-listed list meets 0 in
-    let d = one-listed list meets 0 in
-    let q = sym (e .1) ∙ h benchPattern (replicate 56 0) (ap (λ (x : Answer). x .code) (e .0)) in
-    let r = sym (d .1) ∙ h onePattern (replicate 56 0) (ap (λ (x : Answer). x .code) (d .0)) in
-    let z : _≡_ {A = ℕ} 1 0 = ap (λ l. getD l 7 0) (q ∙ sym r) in
-    omega arith
-
--- one that leaves the slice untouched
-pub listing-untouched : (list : Lists) → ((pattern before : List ℕ) → list pattern before .after ≡ before) → ¬ MeetsListing list
-unfolding collect wordBytes
-listing-untouched list h meets =
-    let z : _≡_ {A = ℕ} 1 0 = ap (λ l. getD l 0 0) (sym (h benchPattern (replicate 56 1)) ∙ bench-listed list meets 1 .1) in
-    omega arith
+  pub listing-fixed : after ≡ otherAfter → ListsBench answer after → ¬ ListsOne other otherAfter
+  unfolding collect wordBytes
+  listing-fixed e met alsoMet =
+      let q = sym (bench-listed answer after met .1) ∙ e ∙ one-listed other otherAfter alsoMet .1 in
+      let z : _≡_ {A = ℕ} 1 0 = ap (λ l. getD l 7 0) q in
+      omega arith

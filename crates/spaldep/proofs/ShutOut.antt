@@ -1,7 +1,7 @@
--- Wrong C calls are shut out. Where the result slice is in order a C call answers the packed answer of the Rattle call and
--- leaves the same memory, so what that call's promise shuts out (Rattle.rule.proofs.ShutOut, MadeUp and ShutOutStart) is shut
--- out of the C call; the bench row says so of a call that refuses all, that reports nothing, and that leaves the slices
--- untouched. Assumes nothing.
+-- Wrong C calls are shut out. Where the result slice is in order a C call answers the packed answer of the Rattle call
+-- and leaves the same memory, so what that call's promise shuts out (Rattle.rule.proofs.ShutOut, MadeUp, ShutOutStart
+-- and Pretends) is shut out of the C call; the bench row says so of a call that refuses all, that reports nothing, and
+-- that leaves the slices untouched, each byte of them 1 before the call. Assumes nothing.
 use mathlib.Core.Path.{_≡_, _∙_, refl, sym, ap}
 use mathlib.Core.List.{List, [], List·Memᴰ·head}
 use Prim.Native.Nat.{ℕ}
@@ -25,7 +25,8 @@ module _ (pattern block : List ℕ) (a : Answer) where
       → ForwardCall pattern block limit lentWork lentResult a callWork callResult
       → (word ≡ packedAnswer a) × (work ≡ callWork) × (result ≡ callResult)
   forward-host-is limit lentWork lentResult word work callWork result callResult fit h f =
-      forward-host-one pattern block limit lentWork lentResult word (packedAnswer a) work callWork result callResult h (ForwardHost.called (λ i. fit) a f refl)
+      forward-host-one pattern block limit lentWork lentResult word (packedAnswer a) work callWork result callResult h
+      (ForwardHost.called (λ i. fit) a f refl)
 
   pub start-by-start-host-is :
       (lent word : ℕ) (result callResult : List ℕ)
@@ -34,16 +35,29 @@ module _ (pattern block : List ℕ) (a : Answer) where
       → StartByStartCall pattern block lent a callResult
       → (word ≡ packedAnswer a) × (result ≡ callResult)
   start-by-start-host-is lent word result callResult fit h s =
-      start-by-start-host-one pattern block lent word (packedAnswer a) result callResult h (StartByStartHost.called (λ i. fit) a s refl)
+      start-by-start-host-one pattern block lent word (packedAnswer a) result callResult h
+      (StartByStartHost.called (λ i. fit) a s refl)
 
 -- ## The bench row, from C
 
 bench-fits : ResultInOrder fullResult
 bench-fits = record { even = refl; short = omega arith }
 
-module _ (word : ℕ) (work result : List ℕ) (met : ForwardHost benchPattern benchBlock fullLimit fullWork fullResult word work result) where
-  told : (word ≡ packedAnswer (gives 14 3 5 [] .answer)) × (work ≡ zeros fullWork) × (result ≡ resultOf fullResult benchNumbers)
-  told = forward-host-is benchPattern benchBlock (gives 14 3 5 [] .answer) fullLimit fullWork fullResult word work (zeros fullWork) result (resultOf fullResult benchNumbers) bench-fits met (rows P1 (List·Memᴰ·head refl) .0)
+-- the answer and the slices after a call, of the bench block with the limit and the slices that the match program lends
+abbrev pub OfBench : ℕ → List ℕ → List ℕ → Type 0
+OfBench word work result = ForwardHost benchPattern benchBlock fullLimit fullWork fullResult word work result
+
+module _ (word : ℕ) (work result : List ℕ) (met : OfBench word work result) where
+  told : (word ≡ packedAnswer (gives 14 3 5 [] .answer)) × (work ≡ zeros fullWork)
+      × (result ≡ resultOf fullResult benchNumbers)
+  told =
+      forward-host-is benchPattern benchBlock (gives 14 3 5 [] .answer) fullLimit fullWork fullResult word work
+      (zeros fullWork)
+      result
+      (resultOf fullResult benchNumbers)
+      bench-fits
+      met
+      (rows P1 (List·Memᴰ·head refl) .0)
 
   pub forward-accepts : codeIn word ≡ 0
   forward-accepts = ap codeIn (told .0) ∙ packed-code (gives 14 3 5 [] .answer)
@@ -60,7 +74,9 @@ module _ (word : ℕ) (work result : List ℕ) (met : ForwardHost benchPattern b
 
 module _ (word : ℕ) (result : List ℕ) (met : StartByStartHost benchPattern benchBlock fullResult word result) where
   started : (word ≡ packedAnswer (gives 14 3 0 [] .answer)) × (result ≡ resultOf fullResult benchNumbers)
-  started = start-by-start-host-is benchPattern benchBlock (gives 14 3 0 [] .answer) fullResult word result (resultOf fullResult benchNumbers) bench-fits met (rows P1 (List·Memᴰ·head refl) .1)
+  started =
+      start-by-start-host-is benchPattern benchBlock (gives 14 3 0 [] .answer) fullResult word result _ bench-fits met
+      (rows P1 (List·Memᴰ·head refl) .1)
 
   pub start-by-start-accepts : codeIn word ≡ 0
   start-by-start-accepts = ap codeIn (started .0) ∙ packed-code (gives 14 3 0 [] .answer)

@@ -1,5 +1,5 @@
-/* What document 01 says of bytes, automaton and readings: see document.h. Quotations are the document's. */
-#include "document.h"
+/* What the rules say of bytes, automaton and readings: see rules.h. */
+#include "rules.h"
 
 #include <stdlib.h>
 #include <string.h>
@@ -22,6 +22,7 @@ void drop(struct list *list) {
 
 /* ---- answers ---- */
 
+/* Rule 7.8. */
 uint64_t answer(uint64_t code, uint64_t place_or_used, uint64_t readings, uint64_t peak) {
   return code << 56 | place_or_used << 32 | readings << 16 | peak;
 }
@@ -45,13 +46,14 @@ static unsigned small_field(const uint8_t *bytes, size_t from, size_t width) {
   return (unsigned)field(bytes, from, width);
 }
 
+/* Rule 3.1. */
 static int64_t two_complement(uint64_t bits32) {
   return bits32 < 0x80000000u ? (int64_t)bits32 : (int64_t)bits32 - 0x100000000;
 }
 
 /* ---- patterns ---- */
 
-/* "A variable is judged with those before it." */
+/* Rules 2.2 and 8.3. Later variables have no say, so of seven in a set the last one is bad. */
 static bool variable_in_order(const struct pattern *p, unsigned v, const uint8_t *byte) {
   unsigned before = v == 0 ? 1 : p->set[v - 1];
   unsigned members = 0;
@@ -62,6 +64,7 @@ static bool variable_in_order(const struct pattern *p, unsigned v, const uint8_t
   return p->set[v] <= SETS && members <= SET_VARIABLES;
 }
 
+/* Rules 2.3 and 8.4. */
 static bool condition_in_order(const struct pattern *p, const struct condition *k, const uint8_t *bytes) {
   if (k->variable >= p->n || k->attribute >= ATTRIBUTES || k->operator>= OPERATORS) return false;
   if (field(bytes, 18, 14) != 0) return false;
@@ -69,7 +72,7 @@ static bool condition_in_order(const struct pattern *p, const struct condition *
   return k->second_variable < p->n && k->second_attribute < ATTRIBUTES && field(bytes, 32, 32) == 0;
 }
 
-/* 0, or the refusal as an answer. */
+/* Rules 2.1 to 2.4, asked in the order of Rule 8.14: 0, or the refusal as an answer. */
 uint64_t read_pattern(const uint8_t *bytes, size_t length, struct pattern *p) {
   memset(p, 0, sizeof *p);
   if (length < 8) return refusal(1, 0);
@@ -102,13 +105,14 @@ uint64_t read_pattern(const uint8_t *bytes, size_t length, struct pattern *p) {
 
 /* ---- blocks ---- */
 
+/* Rules 1.3 and 8.6. */
 static bool record_in_order(const struct record *r, const uint8_t *bytes) {
   if (r->kind > GAP || bytes[15] != 0) return false;
   if (r->kind == GAP) return r->core == 0 && r->type == 0 && r->amount == 0 && r->slot >= 1;
   return true;
 }
 
-/* 0, or the refusal as an answer. */
+/* Rules 1.1, 1.2 and 1.5, asked in the order of Rule 8.14: 0, or the refusal as an answer. */
 uint64_t read_block(const uint8_t *bytes, size_t length, struct block *b) {
   b->count = 0;
   if (length % RECORD_BYTES != 0 || length / RECORD_BYTES > RECORDS) return refusal(5, 0);
@@ -128,6 +132,7 @@ uint64_t read_block(const uint8_t *bytes, size_t length, struct block *b) {
   return 0;
 }
 
+/* Rule 1.4. */
 static unsigned class_of(unsigned type) {
   if (type <= 15) return 0;
   if (type <= 31) return 1;
@@ -137,6 +142,7 @@ static unsigned class_of(unsigned type) {
   return 5;
 }
 
+/* Rule 3.1. */
 static int64_t value(const struct record *r, unsigned attribute) {
   switch (attribute) {
     case CORE: return r->core;
@@ -147,6 +153,7 @@ static int64_t value(const struct record *r, unsigned attribute) {
   }
 }
 
+/* Rule 3.2. */
 static bool compares(int64_t left, unsigned operator, int64_t right) {
   switch (operator) {
     case 0: return left == right;
@@ -161,7 +168,7 @@ static bool compares(int64_t left, unsigned operator, int64_t right) {
 
 static bool has(unsigned state, unsigned v) { return (state >> v & 1) == 1; }
 
-/* "all of the earlier sets and any part of the current one" */
+/* Rule 4.1: whether the state is one of a set, with nothing missing before that set and nothing bound behind it. */
 static bool state_of_set(const struct pattern *p, unsigned state, unsigned set) {
   for (unsigned v = 0; v < p->n; v++) {
     if (p->set[v] < set && !has(state, v)) return false;
@@ -170,13 +177,13 @@ static bool state_of_set(const struct pattern *p, unsigned state, unsigned set) 
   return true;
 }
 
-/* "each unbound variable of the current set, and a loop for each bound group variable of that set": the full state
-   of one set is a state of that set and of the next. */
+/* Rule 4.2. The state in which a set is full is one of that set, where its group variables loop, and one of the next,
+   where nothing is bound yet. */
 bool step_leaves(const struct pattern *p, unsigned state, unsigned v) {
   return state_of_set(p, state, p->set[v]) && (!has(state, v) || p->group[v]);
 }
 
-/* "A step from a merged state on a variable of the next set also carries the order mark." */
+/* Rule 4.3: the step is the first into a set behind another. */
 bool order_mark(const struct pattern *p, unsigned state, unsigned v) {
   if (p->set[v] == 1) return false;
   for (unsigned u = 0; u < p->n; u++)
@@ -184,8 +191,7 @@ bool order_mark(const struct pattern *p, unsigned state, unsigned v) {
   return true;
 }
 
-/* "every condition that names v and, if it has a second variable, names there only v or variables of the state, on
-   either side" */
+/* Rule 4.4: the condition is about v, and all else that it is about is bound. */
 bool carries(const struct condition *k, unsigned state, unsigned v) {
   if (k->form == 0) return k->variable == v;
   if (k->variable != v && k->second_variable != v) return false;
@@ -200,14 +206,15 @@ static unsigned state_after(const struct reading *r, size_t bindings) {
   return state;
 }
 
-/* Whether a condition holds with record `first` for its variable and record `second` for its second variable. */
+/* Rule 3.3: whether a condition holds with `first` for its variable and `second` for its second variable. */
 static bool holds(const struct block *b, const struct condition *k, size_t first, size_t second) {
   int64_t left = value(&b->record[first], k->attribute);
   int64_t right = k->form == 0 ? k->constant : value(&b->record[second], k->second_attribute);
   return compares(left, k->operator, right);
 }
 
-/* "its conditions hold of the new event together with each choice of one binding for each other variable named" */
+/* Rule 5.3: whether a condition holds of the new event beside each event that its other variable is bound to. One that
+   is about v alone, on one side or on both, asks the new event and no earlier one. */
 static bool condition_holds(const struct block *b, const struct condition *k, const struct reading *r, size_t bindings,
                             unsigned v, size_t event) {
   if (k->form == 0 || k->variable == k->second_variable) return holds(b, k, event, event);
@@ -220,7 +227,7 @@ static bool condition_holds(const struct block *b, const struct condition *k, co
   return true;
 }
 
-/* Whether the event fires the step on v from the state that the first `bindings` bindings of r hold. */
+/* Rule 5.2: whether the event fires the step on v from the state that the first `bindings` bindings of r hold. */
 bool fires(const struct pattern *p, const struct block *b, const struct reading *r, size_t bindings, unsigned v,
            size_t event) {
   unsigned state = state_after(r, bindings);
@@ -254,7 +261,8 @@ bool late(const struct pattern *p, const struct block *b, const struct reading *
   return b->record[at].time - b->record[r->binding[0].record].time > p->duration;
 }
 
-/* The mark with which a live reading closes at `at`, the count of records standing for the end; 0: it does not. */
+/* Rule 5.8: the mark with which a live reading closes at `at`, the count of records standing for the end; 0: it does
+   not. */
 unsigned closing(const struct pattern *p, const struct block *b, const struct reading *r, size_t at) {
   if (at == b->count) return MARK_END;
   if (b->record[at].kind == GAP) return MARK_GAP;
@@ -263,7 +271,7 @@ unsigned closing(const struct pattern *p, const struct block *b, const struct re
 
 /* ---- what a pass is given ---- */
 
-/* Rows 1 to 8 of a pass, the limit and working memory left out. */
+/* Rule 8.14, up to refusal 7. */
 uint64_t read_all(const uint8_t *pattern, size_t pattern_len, const uint8_t *block, size_t block_len, struct pattern *p,
                   struct block *b) {
   uint64_t refused = read_pattern(pattern, pattern_len, p);
@@ -278,7 +286,7 @@ bool limit_in_order(uint32_t limit, size_t work_len) {
 
 /* ---- the report ---- */
 
-/* "by first record; then, where two readings first differ, the smaller variable first" */
+/* Rule 6.1. */
 static int report_order(const void *left, const void *right) {
   const struct reading *x = left, *y = right;
   if (x->binding[0].record != y->binding[0].record) return x->binding[0].record < y->binding[0].record ? -1 : 1;
@@ -299,7 +307,7 @@ static void put(uint8_t *result, size_t at, unsigned number) {
   result[2 * at + 1] = (uint8_t)(number & 255);
 }
 
-/* Writes a report that fits and gives the answer of success. */
+/* Rules 6.1 to 6.3. */
 uint64_t write_report(struct list *report, size_t peak, uint8_t *result) {
   size_t at = 0;
   if (report->count > 0) qsort(report->reading, report->count, sizeof *report->reading, report_order);

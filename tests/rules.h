@@ -1,10 +1,10 @@
 /*
- * What document 01 says of bytes, automaton and readings, for the reference's passes: read_pattern and read_block give
- * the bytes their meaning, step_leaves to carries are the automaton, fires to closing the reading rule. Nothing here
- * goes through a block.
+ * What docs/RULES.md says of bytes, automaton and readings, for the reference's passes: read_pattern and read_block
+ * give the bytes their meaning, step_leaves to carries are the automaton, fires to closing the reading rule. Nothing
+ * here goes through a block. `Rule 5.3` in a comment is the clause that the code beside it follows.
  */
-#ifndef DOCUMENT_H
-#define DOCUMENT_H
+#ifndef RULES_H
+#define RULES_H
 
 #include <stdbool.h>
 #include <stddef.h>
@@ -71,7 +71,7 @@ struct list {
 void add(struct list *list, const struct reading *reading);
 void drop(struct list *list);
 
-/* Answers of the C calls. */
+/* Answers of the C calls, Rule 7.8. */
 uint64_t answer(uint64_t code, uint64_t place_or_used, uint64_t readings, uint64_t peak);
 uint64_t refusal(unsigned code, size_t place);
 void clear(uint8_t *bytes, size_t length);
@@ -82,7 +82,7 @@ uint64_t read_block(const uint8_t *bytes, size_t length, struct block *b);
 uint64_t read_all(const uint8_t *pattern, size_t pattern_len, const uint8_t *block, size_t block_len, struct pattern *p,
                   struct block *b);
 
-/* Row 8. */
+/* Rule 8.8. */
 bool result_in_order(size_t result_len);
 bool limit_in_order(uint32_t limit, size_t work_len);
 
