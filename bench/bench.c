@@ -17,7 +17,7 @@
 #include "workloads.h"
 #include "yardstick.h"
 
-enum { ROUNDS = 60, LIMIT = 256, STACK_BYTES = 4 << 20, PAINT = 0xa5 };
+enum { ROUNDS = 60, LIMIT = SPALDEP_LIMIT_MAX, STACK_BYTES = 4 << 20, PAINT = 0xa5 };
 static const double ROUND_SECONDS = 0.0015;
 
 typedef uint64_t (*pass)(const struct workload *w, uint8_t *result);

@@ -3,7 +3,8 @@
 
 #include <string.h>
 
-enum { RECORDS = 4096, CORE = 0, TYPE = 1, CLASS = 2, SLOT = 3, AMOUNT = 4, EQUAL = 0, AT_MOST = 2, ABOVE = 3 };
+enum { RECORDS = SPALDEP_BLOCK_RECORDS };
+enum { CORE = 0, TYPE = 1, CLASS = 2, SLOT = 3, AMOUNT = 4, EQUAL = 0, AT_MOST = 2, ABOVE = 3 };
 enum { BOUND_ON_SLOT = 90, NO_CORE_OR_TYPE = 200, NO_CLASS = 1000 };
 
 static const uint8_t class_types[6] = {3, 17, 33, 65, 97, 129};

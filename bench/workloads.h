@@ -5,11 +5,13 @@
 #include <stddef.h>
 #include <stdint.h>
 
+#include "spaldep.h"
+
 struct workload {
   const char *name;
   size_t pattern_len, block_len;
-  uint8_t pattern[276];
-  uint8_t block[4096 * 16];
+  uint8_t pattern[SPALDEP_PATTERN_BYTES_MAX];
+  uint8_t block[SPALDEP_BLOCK_RECORDS * SPALDEP_RECORD_BYTES];
 };
 
 /* The workloads that are timed; one more, number WORKLOADS, is there for the stack: readings of 32 bindings, six

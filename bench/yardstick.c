@@ -4,7 +4,9 @@
 #include <stdbool.h>
 #include <string.h>
 
-enum { VARIABLES = 12, CONDITIONS = 32, RECORDS = 4096, BINDINGS = 32, ATTRIBUTES = 5, AMOUNT = 4 };
+enum { VARIABLES = 12, CONDITIONS = 32, SETS = 8, SET_VARIABLES = 6, RECORDS = 4096, BINDINGS = 32 };
+enum { LIMIT = 256, WORK_BYTES = 160, RESULT_BYTES = 65536 };
+enum { ATTRIBUTES = 5, AMOUNT = 4 };
 enum { MARK_WINDOW = 1, MARK_END = 2, MARK_GAP = 3 };
 
 struct record {
@@ -96,7 +98,7 @@ static uint64_t read_variables(struct pattern *p, const uint8_t *bytes) {
       earlier = (uint16_t)(earlier | current);
       current = 0;
     }
-    if (own != set || set > 8 || ++members > 6 || (bytes[v] & 7) != 0) return refusal(3, v);
+    if (own != set || set > SETS || ++members > SET_VARIABLES || (bytes[v] & 7) != 0) return refusal(3, v);
     current = (uint16_t)(current | 1u << v);
     p->variable[v].before = earlier;
     p->variable[v].group = bytes[v] >> 3 & 1;
@@ -322,7 +324,7 @@ static uint64_t go_forward(const struct pattern *p, size_t count, size_t limit, 
   return report->used > report->room ? refusal(11, 0) : 0;
 }
 
-static bool result_in_order(size_t result_len) { return result_len % 2 == 0 && result_len <= 65536; }
+static bool result_in_order(size_t result_len) { return result_len % 2 == 0 && result_len <= RESULT_BYTES; }
 
 uint64_t yardstick_forward(const uint8_t *pattern, size_t pattern_len, const uint8_t *block, size_t block_len,
                            uint32_t limit, uint8_t *work, size_t work_len, uint8_t *result, size_t result_len) {
@@ -331,7 +333,8 @@ uint64_t yardstick_forward(const uint8_t *pattern, size_t pattern_len, const uin
   size_t peak = 0;
   uint64_t refused = read_pattern(&p, pattern, pattern_len);
   if (refused == 0) refused = read_block(block, block_len);
-  if (refused == 0 && (limit < 1 || limit > 256 || work_len < 160 * (size_t)limit || !result_in_order(result_len)))
+  if (refused == 0 &&
+      (limit < 1 || limit > LIMIT || work_len < WORK_BYTES * (size_t)limit || !result_in_order(result_len)))
     refused = refusal(8, 0);
   if (refused == 0) {
     struct slot *halves[2] = {(struct slot *)work, (struct slot *)work + limit};

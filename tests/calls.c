@@ -13,7 +13,12 @@
 #include "spaldep.h"
 #include "tally.h"
 
-enum { RESULT_ROOM = 65536 + 64, WORK_ROOM = 160 * 256 + 4096, LISTING_ROOM = 8 * 900, CALL_SECONDS = 120 };
+enum {
+  RESULT_ROOM = SPALDEP_RESULT_BYTES_MAX + 64,
+  WORK_ROOM = SPALDEP_WORK_BYTES(SPALDEP_LIMIT_MAX) + 4096,
+  LISTING_ROOM = 8 * 900,
+  CALL_SECONDS = 120
+};
 
 /* ---- failures ---- */
 
@@ -111,16 +116,17 @@ uint64_t compare_listing(size_t listing_len) {
 static void count_report(const uint8_t *result, uint64_t answer, size_t result_len) {
   bool marks[16] = {false}, long_one = false;
   uint32_t used = spaldep_used(answer);
-  tally.met[MET_LONGEST_RESULT_SHORT] += spaldep_code(answer) == SPALDEP_REFUSED_RESULT_ROOM && result_len == 65536;
+  tally.met[MET_LONGEST_RESULT_SHORT] +=
+      spaldep_code(answer) == SPALDEP_REFUSED_RESULT_ROOM && result_len == SPALDEP_RESULT_BYTES_MAX;
   if (spaldep_code(answer) != 0) return;
   for (uint32_t at = 0; at < used; at += 1 + spaldep_bindings(spaldep_number(result, at))) {
     marks[spaldep_mark(spaldep_number(result, at))] = true;
-    long_one = long_one || spaldep_bindings(spaldep_number(result, at)) == 32;
+    long_one = long_one || spaldep_bindings(spaldep_number(result, at)) == SPALDEP_BINDINGS_MAX;
   }
   tally.met[MET_MARK_WINDOW] += marks[1];
   tally.met[MET_MARK_END] += marks[2];
   tally.met[MET_MARK_GAP] += marks[3];
-  tally.met[MET_32_BINDINGS] += long_one;
+  tally.met[MET_MOST_BINDINGS] += long_one;
   tally.met[MET_RESULT_FULL] += used > 0 && used == result_len / 2;
 }
 
@@ -139,7 +145,7 @@ static uint64_t compare_forward(uint32_t limit, size_t work_len, size_t result_l
   same_bytes("leaves other working memory", &lent_work, reference_work);
   count_report(reference_result, reference, result_len);
   tally.met[MET_PEAK_IS_LIMIT] += spaldep_code(library) == 0 && spaldep_peak(library) == limit;
-  tally.met[MET_256_LIVE] += spaldep_peak(library) == 256;
+  tally.met[MET_MOST_LIVE] += spaldep_peak(library) == SPALDEP_LIMIT_MAX;
   return library;
 }
 
@@ -185,7 +191,7 @@ void compare_passes(uint32_t limit, size_t work_len, size_t result_len) {
   uint64_t forward = compare_forward(limit, work_len, result_len);
   memcpy(forward_result, lent_result.bytes, result_len);
   uint64_t starts = compare_starts(result_len);
-  bool in_order = limit >= 1 && limit <= 256 && work_len >= SPALDEP_WORK_BYTES(limit);
+  bool in_order = limit >= 1 && limit <= SPALDEP_LIMIT_MAX && work_len >= SPALDEP_WORK_BYTES(limit);
   bool same = (forward & ~(uint64_t)0xffff) == starts && memcmp(forward_result, lent_result.bytes, result_len) == 0;
   now_call = "the two passes";
   if (spaldep_code(forward) == 0 && !(spaldep_code(starts) == 0 && same))

@@ -17,6 +17,9 @@ HEADER = (4, 4, 8, 8, 40)  # edition, variables, conditions, zero, duration
 VARIABLE = (4, 1, 3)  # set number, group flag, zero
 CONDITION = (4, 3, 3, 1, 4, 3, 14, 32)  # variable, attribute, operator, form, second of both, zero, constant
 
+# the most records of a block; variables, conditions and sets of a pattern; variables of a set
+RECORDS, VARIABLES, CONDITIONS, SETS, SET_VARIABLES = 4096, 12, 32, 8, 6
+
 
 def fields(data, widths):
     """The fields of the given widths that the bytes hold."""
@@ -34,7 +37,7 @@ def fields(data, widths):
 
 def check_block(block):
     """Code, place and used: the refusals 5 to 7, or the count of records."""
-    if len(block) % 16 != 0 or len(block) // 16 > 4096:
+    if len(block) % 16 != 0 or len(block) // 16 > RECORDS:
         return 5, 0, 0
     times = []
     for i in range(len(block) // 16):
@@ -52,7 +55,7 @@ def check_block(block):
 def variable_keeps_rules(number, zero, before):
     """A variable's byte, judged with the set numbers before it."""
     starts = number == 1 if not before else before[-1] <= number <= before[-1] + 1
-    return starts and number <= 8 and (before + [number]).count(number) <= 6 and zero == 0
+    return starts and number <= SETS and (before + [number]).count(number) <= SET_VARIABLES and zero == 0
 
 
 def condition_keeps_rules(n, variable, attribute, operator, form, variable2, attribute2, zero, constant):
@@ -72,7 +75,7 @@ def check_pattern(pattern):
     if len(pattern) < 8:
         return refused(1, 0)
     edition, n, c, zero, duration = fields(pattern[:8], HEADER)
-    if edition != 1 or n not in range(1, 13) or c not in range(0, 33) or zero != 0:
+    if edition != 1 or n not in range(1, VARIABLES + 1) or c not in range(0, CONDITIONS + 1) or zero != 0:
         return refused(2, 0)
     if len(pattern) != 8 + n + 8 * c:
         return refused(1, 0)
@@ -178,7 +181,7 @@ BENCH_BLOCK = block(
     event(120, 2, 33),
 )
 
-LAST_RECORD = 16 * 4095
+LAST_RECORD = 16 * (RECORDS - 1)
 
 BLOCKS = [
     "# Blocks: code, place, used",
@@ -195,15 +198,15 @@ BLOCKS = [
     "# 0, 1, 4,095, 4,096, 4,097 and 4,098 records",
     "events 0",
     "events 1",
-    "events 4095",
-    "events 4096",
-    "events 4097",
-    "events 4098",
+    f"events {RECORDS - 1}",
+    f"events {RECORDS}",
+    f"events {RECORDS + 1}",
+    f"events {RECORDS + 2}",
     "# 4,096 records and one byte, and fifteen; 4,095 records and fifteen bytes; 4,097 records and one byte",
-    "events 4096 1",
-    "events 4096 15",
-    "events 4095 15",
-    "events 4097 1",
+    f"events {RECORDS} 1",
+    f"events {RECORDS} 15",
+    f"events {RECORDS - 1} 15",
+    f"events {RECORDS + 1} 1",
     "# An event with every field as large as it can be",
     block(event(2**40 - 1, 63, 255, 2**32 - 1, 2**32 - 1)),
     "# Kind 2; kind 3; kind 2 in the second record",
@@ -242,15 +245,15 @@ BLOCKS = [
     block(event(10), gap(20), event(15)),
     block(event(10), gap(20), event(10)),
     "# The last of 4,096 records: last byte set, kind 3, its time 0",
-    f"events 4096 0 {LAST_RECORD + 15} 1",
-    f"events 4096 0 {LAST_RECORD} 192",
-    f"events 4096 0 {LAST_RECORD + 5} 0",
+    f"events {RECORDS} 0 {LAST_RECORD + 15} 1",
+    f"events {RECORDS} 0 {LAST_RECORD} 192",
+    f"events {RECORDS} 0 {LAST_RECORD + 5} 0",
     "# 5 before 6: a broken record and a byte too many, and 4,097 records of which the first is broken",
     block(event(1, kind=3), "00"),
-    "events 4097 0 0 192",
+    f"events {RECORDS + 1} 0 0 192",
     "# 5 before 7: a late record and a byte too many, and 4,097 records of which the last is late",
     block(event(5), event(5), "00"),
-    f"events 4097 0 {LAST_RECORD + 16 + 5} 0",
+    f"events {RECORDS + 1} 0 {LAST_RECORD + 16 + 5} 0",
     "# A record both broken and late: an event, a gap",
     block(event(5), event(5, kind=2)),
     block(event(5), gap(4, 0)),

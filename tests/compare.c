@@ -46,14 +46,17 @@ static size_t any_result_len(struct random *r, size_t used) {
     case 6: return 2 * (used - (used > 0));
     case 7: return 2 * used + (chance(r, 30) ? 1 : 2);
     case 8: return 2 * used - (used > 0);
-    case 9: return 65536;
-    case 10: return 65536 + between(r, 1, 4);
+    case 9: return SPALDEP_RESULT_BYTES_MAX;
+    case 10: return SPALDEP_RESULT_BYTES_MAX + between(r, 1, 4);
     case 11:
     case 12: return 2 * below(r, (unsigned)used + 1);
     case 13: return below(r, 4);
     default: return 2 * below(r, (unsigned)used + 20);
   }
 }
+
+/* Working memory for the highest limit. */
+enum { MOST_WORK = SPALDEP_WORK_BYTES(SPALDEP_LIMIT_MAX) };
 
 static uint32_t any_limit(struct random *r, uint32_t peak) {
   switch (below(r, 10)) {
@@ -62,19 +65,20 @@ static uint32_t any_limit(struct random *r, uint32_t peak) {
     case 2: return peak + (peak == 0);
     case 3:
     case 4: return peak - (peak > 1);
-    case 5: return 1 + below(r, 256);
-    case 6: return 256;
+    case 5: return 1 + below(r, SPALDEP_LIMIT_MAX);
+    case 6: return SPALDEP_LIMIT_MAX;
     case 7:
     case 8: return 1 + below(r, peak + 2);
     default: {
-      static const uint32_t edges[] = {0, 1, 255, 257, 258, 0x10001, 0x80000001, 0xffffffff};
+      static const uint32_t edges[] = {
+          0, 1, SPALDEP_LIMIT_MAX - 1, SPALDEP_LIMIT_MAX + 1, SPALDEP_LIMIT_MAX + 2, 0x10001, 0x80000001, 0xffffffff};
       return edges[below(r, 8)];
     }
   }
 }
 
 static size_t any_work_len(struct random *r, uint32_t limit) {
-  size_t need = limit <= 256 ? SPALDEP_WORK_BYTES(limit) : SPALDEP_WORK_BYTES(256);
+  size_t need = SPALDEP_WORK_BYTES(limit <= SPALDEP_LIMIT_MAX ? limit : SPALDEP_LIMIT_MAX);
   switch (below(r, 24)) {
     case 0: return need - (need > 0);
     case 1: return below(r, (unsigned)need + 1);
@@ -90,11 +94,11 @@ static size_t any_work_len(struct random *r, uint32_t limit) {
 
 static void count_input(uint64_t pattern_answer, uint64_t block_answer) {
   if (spaldep_code(pattern_answer) == 0) {
-    tally.met[MET_12_VARIABLES] += (now.pattern[0] & 15) == 12;
-    tally.met[MET_32_CONDITIONS] += now.pattern[1] == 32;
+    tally.met[MET_MOST_VARIABLES] += (now.pattern[0] & 15) == 12;
+    tally.met[MET_MOST_CONDITIONS] += now.pattern[1] == 32;
   }
   if (spaldep_code(block_answer) == 0) {
-    tally.met[MET_4096_RECORDS] += spaldep_used(block_answer) == 4096;
+    tally.met[MET_MOST_RECORDS] += spaldep_used(block_answer) == SPALDEP_BLOCK_RECORDS;
     tally.met[MET_NO_RECORDS] += spaldep_used(block_answer) == 0;
   }
 }
@@ -103,13 +107,14 @@ static void count_input(uint64_t pattern_answer, uint64_t block_answer) {
    edges of the lent memory are chosen around them. Where the forward pass refuses at a record, the records before it
    count, so that a limit of just the peak meets that record. */
 static void find_edges(size_t *used, uint32_t *peak) {
-  static uint8_t work[160 * 256], result[65536];
-  uint64_t forward = reference_forward(now.pattern, now.pattern_len, now.block, now.block_len, 256, work,
-                                       SPALDEP_WORK_BYTES(256), result, 65536);
+  static uint8_t work[MOST_WORK], result[SPALDEP_RESULT_BYTES_MAX];
+  uint64_t forward = reference_forward(now.pattern, now.pattern_len, now.block, now.block_len, SPALDEP_LIMIT_MAX, work,
+                                       MOST_WORK, result, sizeof result);
   if (spaldep_code(forward) == SPALDEP_REFUSED_BINDINGS || spaldep_code(forward) == SPALDEP_REFUSED_LIVE)
-    forward = reference_forward(now.pattern, now.pattern_len, now.block, 16 * (size_t)spaldep_place(forward), 256, work,
-                                SPALDEP_WORK_BYTES(256), result, 65536);
-  uint64_t starts = reference_start_by_start(now.pattern, now.pattern_len, now.block, now.block_len, result, 65536);
+    forward = reference_forward(now.pattern, now.pattern_len, now.block, 16 * (size_t)spaldep_place(forward),
+                                SPALDEP_LIMIT_MAX, work, MOST_WORK, result, sizeof result);
+  uint64_t starts =
+      reference_start_by_start(now.pattern, now.pattern_len, now.block, now.block_len, result, sizeof result);
   *used = spaldep_code(starts) == 0 ? spaldep_used(starts) : spaldep_used(forward);
   *peak = spaldep_peak(forward);
 }
@@ -126,8 +131,8 @@ static void run_case(uint64_t seed) {
   compare_listing(any_listing_len(&r, spaldep_used(listing)));
   compare_measure();
   find_edges(&used, &peak);
-  compare_passes(256, SPALDEP_WORK_BYTES(256), 65536);
-  compare_by_rule(256, SPALDEP_WORK_BYTES(256), 65536);
+  compare_passes(SPALDEP_LIMIT_MAX, MOST_WORK, SPALDEP_RESULT_BYTES_MAX);
+  compare_by_rule(SPALDEP_LIMIT_MAX, MOST_WORK, SPALDEP_RESULT_BYTES_MAX);
   for (unsigned i = 0; i < (now.large ? 1 : 3); i++) {
     uint32_t limit = any_limit(&r, peak);
     size_t work_len = any_work_len(&r, limit), result_len = any_result_len(&r, used);
@@ -157,7 +162,7 @@ static void run_changed_bench(const char *what, size_t at) {
   compare_check_block();
   compare_listing(8 * SPALDEP_STEPS_MAX);
   compare_measure();
-  compare_passes(256, SPALDEP_WORK_BYTES(256), 65536);
+  compare_passes(SPALDEP_LIMIT_MAX, MOST_WORK, SPALDEP_RESULT_BYTES_MAX);
   end_case();
 }
 

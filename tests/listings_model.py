@@ -12,6 +12,8 @@ import itertools
 import os
 import sys
 
+from checks_model import CONDITIONS, SETS, SET_VARIABLES, VARIABLES
+
 
 # ---- Rules 2.1 to 2.3: patterns as their bytes ----
 
@@ -65,10 +67,10 @@ PAPER = pattern(
 )
 
 # 32 conditions, some of one variable twice
-JOINS = [same(7 * i % 12, CORE, 5 * i % 12) for i in range(32)]
+JOINS = [same(7 * i % VARIABLES, CORE, 5 * i % VARIABLES) for i in range(CONDITIONS)]
 
 # the most steps: two sets of six group variables
-LARGEST = pattern([[1] * 6, [1] * 6], JOINS, 1000)
+LARGEST = pattern([[1] * SET_VARIABLES, [1] * SET_VARIABLES], JOINS, 1000)
 
 # the most sets: eight, of two variables and of one
 EIGHT_SETS = pattern([[1, 0], [0, 1], [1, 1], [0, 0], [1], [0], [1], [0]], JOINS, 50)
@@ -114,7 +116,7 @@ def check(data):
         return 1, 0, None
     head = int.from_bytes(data[:8], "big")
     n, c = head >> 56 & 15, head >> 48 & 255
-    if head >> 60 != 1 or not 1 <= n <= 12 or c > 32 or head >> 40 & 255:
+    if head >> 60 != 1 or not 1 <= n <= VARIABLES or c > CONDITIONS or head >> 40 & 255:
         return 2, 0, None
     if len(data) != 8 + n + 8 * c:
         return 1, 0, None
@@ -123,7 +125,7 @@ def check(data):
         byte = data[8 + v]
         number = byte >> 4
         allowed = [1] if not sets else [sets[-1], sets[-1] + 1]
-        if number not in allowed or number > 8 or (sets + [number]).count(number) > 6 or byte & 7:
+        if number not in allowed or number > SETS or (sets + [number]).count(number) > SET_VARIABLES or byte & 7:
             return 3, v, None
         sets.append(number)
         groups.append(byte >> 3 & 1)

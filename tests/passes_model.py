@@ -87,8 +87,8 @@ class Rule:
         return [(mark, reading) for reading in readings if {u for u, _ in reading} == set(range(len(self.sets)))]
 
     def history(self):
-        """Of each record, and then of the end: the lines that close there, whether a reading would take a 33rd binding
-        there, and how many readings are live after it."""
+        """Of each record, and then of the end: the lines that close there, whether a reading would take a binding
+        too many there, and how many readings are live after it."""
         live = []
         for j, record in enumerate(self.records):
             if record[0] == 1:
@@ -222,7 +222,7 @@ BENCH_RECORDS = joined(BENCH_BLOCK.removeprefix("block"))
 P1 = [12292, 0, 4098, 4099, 8196, 8196, 4104, 9, 4106, 8203, 8195, 9, 4106, 8203]
 GROUP = plain((1, 1), duration=1000)
 TWO_GROUPS = plain((1, 1), (2, 0), conditions=(condition(0, 2, 0, 0), condition(1, 2, 0, 2)), duration=1000)
-BINDS = [event(10 * i + 10) for i in range(32)]
+BINDS = [event(10 * i + 10) for i in range(MOST_BINDINGS)]
 DRAW = event(500, event_type=33)
 LATE_BIND = event(510)
 LATE_DRAW = event(520, event_type=33)
@@ -237,7 +237,7 @@ BIND_DRAW = plain((1, 0), (2, 0), conditions=(condition(0, 2, 0, 0), condition(1
 BIND_DRAWS = plain((1, 0), (2, 1), conditions=(condition(0, 2, 0, 0), condition(1, 2, 0, 2)))
 SPAN = [event(10, 1, 3), event(20, 1, 17), event(30, 1, 33)]
 STAYS = [event(10), event(20, event_type=33), event(30, event_type=200), event(40, event_type=200), event(50)]
-AGAIN = [event(10), gap(11)] + [event(20 + i) for i in range(33)]
+AGAIN = [event(10), gap(11)] + [event(20 + i) for i in range(MOST_BINDINGS + 1)]
 THRICE = [event(10), event(20), event(30)]
 
 # Variables of which no two can be bound together: each event begins four readings, and all stay live
@@ -247,10 +247,10 @@ APART = plain(*[(1, 0)] * 4, conditions=[condition(u, 3, 1, second=(v, 3)) for v
 BIND_OR_MARK = plain((1, 1), (1, 0), conditions=(condition(1, 2, 0, 5),))
 MARK = event(60, event_type=200)
 
-# At record 34 the reading of core 5 closes, and that of core 6 would take a 33rd binding
+# At the last record the reading of core 5 closes, and that of core 6 would take a binding too many
 CORES = plain((1, 0), (2, 1), conditions=(condition(0, 2, 0, 0), condition(1, 2, 0, 1), condition(1, 0, 0, second=(0, 0))))
 CORE_5 = [event(10, 5), event(11, 5, 17)]
-CORE_6 = [event(12, 6)] + [event(13 + i, 6, 17) for i in range(31)] + [event(111, 6, 17)]
+CORE_6 = [event(12, 6)] + [event(13 + i, 6, 17) for i in range(MOST_BINDINGS - 1)] + [event(111, 6, 17)]
 
 # At record 2 the reading of record 0 closes, and four are live after it
 CLOSE_FOUR = plain((1, 0), (1, 0), conditions=(condition(0, 2, 0, 0),), duration=5)
@@ -329,21 +329,21 @@ REFUSED = [
     case(6, plain((1, 0), conditions=(condition(0, 0, 5),)), THRICE, limit=257, work=0),
     case(6, BENCH, [event(10), event(10)], limit=257, work=0),
     "# 8 before the pass: L 0 or working memory short, where the pass would give 9, 10 or 11",
-    case(4, GROUP, steps(33), limit=0),
+    case(4, GROUP, steps(MOST_BINDINGS + 1), limit=0),
     case(28, BENCH, [BENCH_RECORDS], limit=4, work=639),
     case(0, BENCH, [BENCH_RECORDS], limit=5, work=799),
-    "# 9 at record 32, a 33rd binding; 10 at record 31 before it, with L 31",
-    case(40, GROUP, steps(33), limit=33),
-    case(40, GROUP, steps(33), limit=31),
-    "# 9 before 10 at one record: a 33rd binding at record 32, and far more than L 32 live; one bind fewer, and it is 10",
-    case(40, BIND_OR_MARK, steps(32) + [MARK], limit=32),
-    case(40, BIND_OR_MARK, steps(31) + [MARK], limit=32),
+    f"# 9 at record {MOST_BINDINGS}, a binding too many; 10 at the record before it, with L {MOST_BINDINGS - 1}",
+    case(40, GROUP, steps(MOST_BINDINGS + 1), limit=MOST_BINDINGS + 1),
+    case(40, GROUP, steps(MOST_BINDINGS + 1), limit=MOST_BINDINGS - 1),
+    f"# 9 before 10 at one record: a binding too many at record {MOST_BINDINGS}, and far more live than L; one bind fewer, and it is 10",
+    case(40, BIND_OR_MARK, steps(MOST_BINDINGS) + [MARK], limit=MOST_BINDINGS),
+    case(40, BIND_OR_MARK, steps(MOST_BINDINGS - 1) + [MARK], limit=MOST_BINDINGS),
     "# 10 at record 5 before an 11 at record 6, and 11 at record 6, a gap, with L 5",
     case(8, BENCH, [BENCH_RECORDS], limit=4),
     case(8, BENCH, [BENCH_RECORDS], limit=5),
     "# 11 at the end of the block: the last reading does not fit",
     case(20, BENCH, [BENCH_RECORDS], limit=5),
-    "# 11 before a later 9: one number at a gap, then a 33rd binding; with two numbers, 9 at record 34",
+    "# 11 before a later 9: one number at a gap, then a binding too many; with two numbers, 9 at the last record",
     case(2, GROUP, AGAIN),
     case(4, GROUP, AGAIN),
     "# 11 before a later 10: one number at a gap, then two live with L 1; with two numbers, 10 at record 3",
@@ -352,7 +352,7 @@ REFUSED = [
     "# The same past the window and with no gap: 11, and 10 at record 2",
     case(2, BRIEF, [event(10), event(20), event(21)], limit=1),
     case(4, BRIEF, [event(10), event(20), event(21)], limit=1),
-    "# 11 before 9 at one record, since closings come first; with room for what closes, 9 at record 34",
+    "# 11 before 9 at one record, since closings come first; with room for what closes, 9 at the last record",
     case(4, CORES, CORE_5 + CORE_6),
     case(6, CORES, CORE_5 + CORE_6),
     "# 11 before 10 at one record; with room for what closes, 10 at record 2",
@@ -393,18 +393,18 @@ RULE = [
     "# The window: the last record within it, and one past it that begins readings of its own",
     case(16, plain((1, 0), duration=0), [event(10), event(11), event(12)]),
     case(26, plain((1, 0), (1, 0), duration=5), [event(10), event(15), event(16)]),
-    "# A group variable at 31, 32 and 33 events: from each event its own reading, then a 33rd binding",
-    case(1056, GROUP, steps(31)),
-    case(1120, GROUP, steps(32)),
-    case(40, GROUP, steps(33)),
-    case(2, GROUP, steps(40)),
-    "# 32 bindings at the end of the first set, so that the second would take a 33rd; 31 of them, and the second has room",
+    f"# A group variable at one event less than the {MOST_BINDINGS} bindings, at as many, and at more: from each event its own reading",
+    case(1056, GROUP, steps(MOST_BINDINGS - 1)),
+    case(1120, GROUP, steps(MOST_BINDINGS)),
+    case(40, GROUP, steps(MOST_BINDINGS + 1)),
+    case(2, GROUP, steps(MOST_BINDINGS + 8)),
+    f"# {MOST_BINDINGS} bindings at the end of the first set, so that the second would take one too many; one less, and the second has room",
     case(41, TWO_GROUPS, BINDS + [DRAW]),
     case(1300, TWO_GROUPS, BINDS[1:] + [DRAW]),
     case(1300, TWO_GROUPS, BINDS[1:] + [DRAW, LATE_BIND, LATE_DRAW]),
     "# The start-by-start pass looks for 9 over the whole block, before 11; the least such record, of several starts",
-    case(0, GROUP, steps(33)),
-    case(0, GROUP, steps(32)),
+    case(0, GROUP, steps(MOST_BINDINGS + 1)),
+    case(0, GROUP, steps(MOST_BINDINGS)),
     case(4, TWO_GROUPS, [gap(5)] + BINDS + [DRAW, LATE_BIND]),
     "# A join that holds for one binding and not for another",
     case(60, plain((1, 1), (2, 0), conditions=(condition(0, 2, 0, 0), condition(1, 2, 0, 2), condition(1, 3, 4, second=(0, 3)))), [event(10, slot=5), event(20, slot=7), event(30, event_type=33, slot=6), event(40, event_type=33, slot=7)]),

@@ -115,13 +115,14 @@ static bool answer_is(uint64_t answer, unsigned code, uint32_t place, uint32_t u
 
 /* The start-by-start pass has no limit: where the row is about it, that pass accepts. */
 static bool row_holds(const struct implementation *i, const struct row *row) {
-  static uint8_t pattern[512], block[16 * 16], work[160 * 256], result[65536];
+  static uint8_t pattern[512], block[16 * 16], work[SPALDEP_WORK_BYTES(SPALDEP_LIMIT_MAX)];
+  static uint8_t result[SPALDEP_RESULT_BYTES_MAX];
   size_t pattern_len = from_hex(row->pattern, pattern), block_len = to_block(row->entries, row->records, block);
   bool accepted = row->code == 0, by_starts = accepted || row->code == SPALDEP_REFUSED_LIVE;
   uint32_t used = (uint32_t)row->used;
   memset(result, 0xff, sizeof result);
-  uint64_t forward = i->forward(pattern, pattern_len, block, block_len, row->limit, work, 160 * (size_t)row->limit,
-                                result, 2 * row->numbers);
+  uint64_t forward = i->forward(pattern, pattern_len, block, block_len, row->limit, work,
+                                SPALDEP_WORK_BYTES(row->limit), result, 2 * row->numbers);
   if (!answer_is(forward, row->code, row->place, accepted ? used : 0, accepted ? row->readings : 0, row->peak) ||
       !result_is(result, row->numbers, row->result, accepted ? used : 0))
     return false;
