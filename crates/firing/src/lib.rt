@@ -21,7 +21,8 @@ use records::Record;
 
 // ## The plan
 
-const PLAN_ROOM: usize = 102;
+// How many numbers a plan has.
+pub const PLAN_ROOM: usize = 102;
 
 const MOST_VARIABLES: usize = 12;
 
@@ -330,11 +331,11 @@ fn place(p: Pattern, at: usize) -> u64
 }
 
 // What a pass prepares once a call.
-pub fn plan_of(p: Pattern) -> [u64; 102]
+pub fn plan_of(p: Pattern) -> [u64; PLAN_ROOM]
     requires { ⌜ InOrder p ⌝ }
     ensures { λ r. ⌜ IsPlan p r ⌝ }
 {
-    let mut plan = [0u64; 102];
+    let mut plan = [0u64; PLAN_ROOM];
     let mut at = 0;
     while at < PLAN_ROOM {
         plan[at] = place(p, at);
@@ -365,7 +366,7 @@ fn settle_order(can: u64, word: u64, x: u64, y: u64) -> u64
 
 // The variables of the mask whose conditions that compare an attribute with the constant hold of record i.
 fn settle_attribute(
-    plan: &[u64; 102],
+    plan: &[u64; PLAN_ROOM],
     n: usize,
     c: usize,
     can: u64,
@@ -413,7 +414,7 @@ fn values_of(block: &[u8], i: usize) -> [u64; 5]
 }
 
 // The variables of the mask whose conditions with one variable on both sides hold of record i.
-fn settle_both(plan: &[u64; 102], n: usize, c: usize, can: u64, block: &[u8], i: usize) -> u64
+fn settle_both(plan: &[u64; PLAN_ROOM], n: usize, c: usize, can: u64, block: &[u8], i: usize) -> u64
     requires { ⌜ Settling (now plan) n c can (now block) i ⌝ }
     ensures { λ r. ⌜ r ≡ settledBy (now (plan .entry)) n c (now (block .entry)) i bothSides can ⌝ }
 {
@@ -436,7 +437,7 @@ fn settle_both(plan: &[u64; 102], n: usize, c: usize, can: u64, block: &[u8], i:
 
 // The variables whose own conditions hold of record i, by the plan of a pattern of n variables and c conditions. The plan
 // has settled those on class; the others are settled here, kind by kind.
-pub fn can_fire(plan: &[u64; 102], n: usize, c: usize, block: &[u8], i: usize) -> u64
+pub fn can_fire(plan: &[u64; PLAN_ROOM], n: usize, c: usize, block: &[u8], i: usize) -> u64
     requires { ⌜ Sound (now plan) × Classed (now plan) n c × (n ≤ mostVariables) × (c ≤ mostConditions) × (recordBytes * i + recordBytes ≤ length (now block)) ⌝ }
     ensures { λ r. ⌜ (r ≡ canBy (now (plan .entry)) n c (now (block .entry)) i) × (r < 2 ^ n) ⌝ }
 {
@@ -455,7 +456,7 @@ pub fn can_fire(plan: &[u64; 102], n: usize, c: usize, block: &[u8], i: usize) -
 // ## Once a reading
 
 // Whether v leaves the state: it loops, or it opens.
-pub fn leaves(plan: &[u64; 102], state: u64, v: usize) -> bool
+pub fn leaves(plan: &[u64; PLAN_ROOM], state: u64, v: usize) -> bool
     requires { ⌜ (length (now plan) ≡ planRoom) × (v < mostVariables) ⌝ }
     ensures { λ r. ⌜ r ≡ leavesBy (now (plan .entry)) state v ⌝ }
 {
@@ -466,7 +467,7 @@ pub fn leaves(plan: &[u64; 102], state: u64, v: usize) -> bool
 }
 
 // Whether record i is later than everything bound, where the order mark asks it.
-pub fn is_later(plan: &[u64; 102], block: &[u8], i: usize, v: usize, slot: &[u8]) -> bool
+pub fn is_later(plan: &[u64; PLAN_ROOM], block: &[u8], i: usize, v: usize, slot: &[u8]) -> bool
     requires { ⌜ Fit (now plan) (now block) i (now slot) × (v < mostVariables) ⌝ }
     ensures { λ r. ⌜ r ≡ laterBy (now (plan .entry)) (now (block .entry)) i v (heldIn (now (slot .entry))) ⌝ }
 {
@@ -534,7 +535,7 @@ fn pair_holds(
 
 // Whether every condition that joins v holds of record i with each earlier binding of the other variable. Every
 // combination is tested, and the first that fails settles it.
-pub fn joins_hold(plan: &[u64; 102], block: &[u8], i: usize, v: usize, slot: &[u8]) -> bool
+pub fn joins_hold(plan: &[u64; PLAN_ROOM], block: &[u8], i: usize, v: usize, slot: &[u8]) -> bool
     requires { ⌜ Fit (now plan) (now block) i (now slot) × (v < mostVariables) ⌝ }
     ensures { λ r. ⌜ r ≡ joinsBy (now (plan .entry)) (now (block .entry)) i v (bindingsIn (now (slot .entry)) (countIn (now (slot .entry)))) ⌝ }
 {
@@ -567,7 +568,7 @@ pub fn joins_hold(plan: &[u64; 102], block: &[u8], i: usize, v: usize, slot: &[u
 }
 
 // Whether record i meets the order mark and every condition that joins v, for the slot's reading.
-pub fn agrees(plan: &[u64; 102], block: &[u8], i: usize, v: usize, slot: &[u8]) -> bool
+pub fn agrees(plan: &[u64; PLAN_ROOM], block: &[u8], i: usize, v: usize, slot: &[u8]) -> bool
     requires { ⌜ Fit (now plan) (now block) i (now slot) × (v < mostVariables) ⌝ }
     ensures { λ r. ⌜ r ≡ agreesBy (now (plan .entry)) (now (block .entry)) i v (heldIn (now (slot .entry))) ⌝ }
 {
