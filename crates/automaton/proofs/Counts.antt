@@ -1,4 +1,4 @@
--- A set of k variables, g of them group, gives (k+g) times 2^(k-1) steps, and the listing has those of all sets.
+-- How many steps each set gives to a listing, and that the listing has those of all sets and no others (rule 4.7).
 -- Assumes nothing.
 use mathlib.Core.Path.{_≡_, _∙_, refl, sym, ap, ap₂}
 use mathlib.Core.Bool.{Bool, true, false, _&&_, and-assoc}
@@ -122,7 +122,7 @@ module _ (p : Pattern) (few : p .n ≤ mostVariables) (fewConditions : p .c ≤ 
       (sum-scale (λ v. oneIf (ofSet v && isGroup p v)) each (p .n) ∙ ap (λ (k : ℕ). k * each) (sum-count (λ v. ofSet v && isGroup p v) (p .n)))
       ∙ sym (add-mul (setSize p set) (groupSize p set) each)
 
--- A set of k variables, g of them group, gives (k+g) times 2^(k-1) steps.
+-- rule 4.7, of any listing of a pattern in order
 pub set-steps : (p : Pattern) → InOrder p → (l : List ℕ) → IsListing p l → (set : ℕ) → length (stepsOfSet p set l) ≡ stepsGiven p set
 set-steps p ok l is set =
     ap (λ (m : List ℕ). length (stepsOfSet p set m)) (one-listing p l (steps p) is (steps-is p (ok .few) (ok .fewConditions)))
@@ -166,7 +166,7 @@ all-steps p ok l is =
         let s : setOf p (stepVariable w) ≡ setOf p (step .on) = ap (setOf p) v in
         (omega (arith, s, sets-from-one p ok (step .on) inside), omega (arith, s, ok .fewSets (step .on) inside))
 
--- The paper's example with sets {c, p+, d} and {b} has 17.
+-- the sets {c, p+, d} and {b}
 pub paper-steps :
     (p : Pattern) → InOrder p → (sets : List ℕ) (groups : List Bool)
     → p .n ≡ 4 → p .sets ≡ 1 ∷ 1 ∷ 1 ∷ 2 ∷ sets → p .groups ≡ false ∷ true ∷ false ∷ false ∷ groups

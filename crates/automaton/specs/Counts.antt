@@ -8,21 +8,22 @@ use Rattle.patterns.specs.declared.Pattern.{Pattern}
 use Rattle.patterns.specs.Checked.{setOf, isGroup}
 use Rattle.automaton.specs.Filtering.{filter}
 
--- how many variables a set has, and how many of them are group variables
+-- Rule 4.7: how many variables a set has
 abbrev pub setSize : Pattern → ℕ → ℕ
 setSize p set = count (λ v. eqb (setOf p v) set) (p .n)
 
+-- Rule 4.7: how many group variables a set has
 abbrev pub groupSize : Pattern → ℕ → ℕ
 groupSize p set = count (λ v. eqb (setOf p v) set && isGroup p v) (p .n)
 
--- the variable of a step
+-- Rule 4.7: the variable of a step
 abbrev pub stepVariable : ℕ → ℕ
 stepVariable word = field 4 48 word
 
--- the steps that a set gives: those on its variables, the merged states' among them
+-- Rule 4.7: the steps that a set gives: those on its variables, from the merged state before it too
 abbrev pub stepsOfSet : Pattern → ℕ → List ℕ → List ℕ
 stepsOfSet p set l = filter (λ w. eqb (setOf p (stepVariable w)) set) l
 
--- A set of k variables, g of them group, gives (k+g) times 2^(k-1) steps.
+-- Rule 4.7: how many these are
 abbrev pub stepsGiven : Pattern → ℕ → ℕ
 stepsGiven p set = (setSize p set + groupSize p set) * 2 ^ (setSize p set - 1)

@@ -10,10 +10,11 @@ use Rattle.patterns.specs.Checked.{patternAnswer, patternOf}
 use Rattle.automaton.specs.Filtering.{collect}
 use Rattle.automaton.specs.Automaton.{IsListing}
 
--- one 64-bit number a step: eight bytes, high first
+-- Rule 7.1
 abbrev pub stepBytes : ℕ
 stepBytes = 8
 
+-- Rule 7.1: a number of 64 bits as eight bytes, high byte first
 unfoldable pub wordBytes : ℕ → List ℕ
 wordBytes word =
     field 8 56 word
@@ -26,23 +27,24 @@ wordBytes word =
     ∷ field 8 0 word
     ∷ []
 
--- the bytes of a listing
+-- Rule 7.1: the bytes of a listing
 abbrev pub listingBytes : List ℕ → List ℕ
 listingBytes l = collect wordBytes l
 
--- how many steps a slice of so many bytes holds
+-- Rule 7.1: how many steps a slice of so many bytes has room for
 abbrev pub stepRoom : ℕ → ℕ
 stepRoom lent = lent / stepBytes
 
+-- Rule 7.1: so many bytes that are 0
 abbrev pub allZero : ℕ → List ℕ
 allZero lent = replicate lent 0
 
--- its success gives the count of steps
+-- Rule 7.4: the answer of a success
 abbrev pub stepsListed : ℕ → Answer
 stepsListed count = record { code = 0; place = 0; used = count; readings = 0; peak = 0 }
 
--- Listing gives 1 to 4, then 12: for the bytes of a pattern and a slice of `lent` bytes, the answer, and the slice's bytes
--- after the call. With a refusal the slice is all 0, and so are unused numbers and left-over bytes.
+-- Rules 7.4, 8.12: for the bytes of a pattern and a slice of `lent` bytes, the answer and the bytes of the slice after
+-- the call
 pub data ListingPromise (pattern : List ℕ) (lent : ℕ) (answer : Answer) (after : List ℕ) : Type 0 where
   badPattern :
       ¬ (patternAnswer pattern .code ≡ 0) →

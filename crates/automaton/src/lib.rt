@@ -17,7 +17,7 @@ use patterns::Condition;
 use patterns::Pattern;
 use records::Answer;
 
-const STEP_BYTES: usize = 8;
+pub const STEP_BYTES: usize = 8;
 
 // The weights of a step's fields.
 const STATE: u64 = 4503599627370496;

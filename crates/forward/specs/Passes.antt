@@ -45,6 +45,6 @@ pub record Finished (answer : Answer) (told result : List ℕ) : Type 0 where
   pub cleared : ¬ (answer .code ≡ 0) → result ≡ replicate (length told) 0
   pub done : answer .code ≡ 0 → result ≡ take (2 * answer .used) told ++ replicate (length told - 2 * answer .used) 0
 
--- row 8: L not 1 to 256, or working memory short
+-- rule 8.8: the limit or the working memory is not in order
 unfoldable pub limitBroken : ℕ → ℕ → Bool
 limitBroken limit lent = ltb limit 1 || (ltb mostLive limit || ltb lent (workPerReading * limit))

@@ -7,14 +7,15 @@ use Rattle.rule.specs.Rule.{Binding, Reading, Line}
 abbrev pub numberAt : List ℕ → ℕ → ℕ
 numberAt result i = number result (2 * i) 2
 
--- head: mark 4, zero 6, count of bindings 6
+-- the mark of the head at a place
 abbrev pub markAt : List ℕ → ℕ → ℕ
 markAt result at = numberAt result at / 2 ^ 12
 
+-- the count of bindings of the head at a place
 abbrev pub countAt : List ℕ → ℕ → ℕ
 countAt result at = numberAt result at % 2 ^ 6
 
--- then each binding: variable 4, record 12
+-- the binding of a number
 abbrev pub bindingOf : ℕ → Binding
 bindingOf word = record { variable = word / 2 ^ 12; at = word % 2 ^ 12 }
 

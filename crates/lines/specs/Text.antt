@@ -6,20 +6,23 @@ use lib.Dec.{ltb, eqb}
 use Rattle.records.specs.declared.Answer.{Answer}
 use Rattle.rule.specs.Rule.{Binding, Reading, Line}
 
+-- Serves rule 9.2
 abbrev pub lineFeed : ℕ
 lineFeed = 10
 
+-- Serves rule 9.2
 abbrev pub space : ℕ
 space = 32
 
+-- Serves rule 9.2
 abbrev pub atSign : ℕ
 atSign = 64
 
--- the code of a digit
+-- Serves rule 9.2: the code of a digit
 abbrev pub glyph : ℕ → ℕ
 glyph digit = 48 + digit
 
--- the decimal digits of a number that has at most so many, the most significant first
+-- Serves rule 9.2: the decimal digits of a number that has at most so many, the most significant first
 unfoldable pub digits : ℕ → ℕ → List ℕ
 digits zero n = []
 digits (suc places) n =
@@ -28,49 +31,53 @@ digits (suc places) n =
       | false ↦ digits places (n / 10) ++ (glyph (n % 10) ∷ [])
     ]
 
--- a number of 64 bits has at most 20 digits
+-- Serves rule 9.2: a number of 64 bits has at most 20 digits
 abbrev pub mostDigits : ℕ
 mostDigits = 20
 
+-- Rule 9.2
 unfoldable pub decimal : ℕ → List ℕ
 decimal n = digits mostDigits n
 
--- a number after a sign
+-- Serves rule 9.2: a number behind a sign
 abbrev pub after : ℕ → ℕ → List ℕ
 after sign n = sign ∷ decimal n
 
--- variable@record, after a space
+-- Rule 9.2
 unfoldable pub bindingText : Binding → List ℕ
 bindingText b = after space (b .variable) ++ after atSign (b .at)
 
--- the oldest binding first; a reading has its latest first
+-- Rule 9.2: the oldest binding first; a reading has its latest first
 unfoldable pub readingText : Reading → List ℕ
 readingText [] = []
 readingText (b ∷ bs) = readingText bs ++ bindingText b
 
--- Each line: mark, then variable@record.
+-- Rule 9.2
 unfoldable pub lineText : Line → List ℕ
 lineText x = decimal (x .mark) ++ readingText (x .reading) ++ (lineFeed ∷ [])
 
+-- Rule 9.2
 unfoldable pub reportText : List Line → List ℕ
 reportText [] = []
 reportText (x ∷ l) = lineText x ++ reportText l
 
+-- Serves rule 9.2
 abbrev pub okWord : List ℕ
 okWord = 111 ∷ 107 ∷ []
 
+-- Serves rule 9.2
 abbrev pub refusedWord : List ℕ
 refusedWord = 114 ∷ 101 ∷ 102 ∷ 117 ∷ 115 ∷ 101 ∷ 100 ∷ []
 
--- Last: ok, readings, used, peak;
+-- Rule 9.2
 unfoldable pub okText : Answer → List ℕ
 okText a = okWord ++ after space (a .readings) ++ after space (a .used) ++ after space (a .peak) ++ (lineFeed ∷ [])
 
--- or `refused`, number, place, alone.
+-- Rule 9.2
 unfoldable pub refusedText : Answer → List ℕ
 refusedText a = refusedWord ++ after space (a .code) ++ after space (a .place) ++ (lineFeed ∷ [])
 
--- all that is written of an answer and of the lines of its report
+-- Rule 9.2: all that is written of an answer and of the lines of its report
 unfoldable pub answerText : Answer → List Line → List ℕ
 answerText a l = elim (eqb (a .code) 0) [ true ↦ reportText l ++ okText a | false ↦ refusedText a ]
 

@@ -3,7 +3,7 @@
 use mathlib.Core.Path.{_≡_, _∙_, refl, sym, ap, ap₂}
 use mathlib.Core.Bool.{Bool, true, false, xor, true≢false}
 use mathlib.Core.List.{List, [], _∷_}
-use Prim.Native.Nat.{ℕ, _+_, _-_, _%_, _^_, _≤_, _<_}
+use Prim.Native.Nat.{ℕ, suc, _+_, _-_, _%_, _^_, _≤_, _<_}
 use native.Mathlib.Omega.{arith}
 use borrow.Author.Tests.{lt-ltb, le-ltb, le-leb, lt-leb, eq-eqb, ne-eqb, ltb-true, ltb-false, eqb-true, eqb-false}
 use lib.Dec.{eqb, ltb, leb}
@@ -11,7 +11,8 @@ use lib.IntN.{ℤ, pos, negsuc}
 use lib.ListN.{getD}
 use lib.Signed.{ltZ}
 use Rattle.patterns.specs.declared.Condition.{Condition}
-use Rattle.patterns.specs.Comparison.{signed, value, constantValue, less, equal, greater, orderOf, meets, comparedWith, holds, raise}
+use Rattle.patterns.specs.Patterns.{lastOperator}
+use Rattle.patterns.specs.Comparison.{signed, value, constantValue, less, equal, greater, orders, orderOf, meets, comparedWith, holds, raise}
 use Rattle.records.specs.declared.Record.{Record}
 use Rattle.numbers.specs.Numbers.{first, firstFrom, oneIf}
 use Rattle.numbers.proofs.Cases.{by-test, by-order}
@@ -55,7 +56,7 @@ pub by-comparison : {P : Type 0} (a b : ℤ) → (ltZ a b ≡ true → P) → (a
 by-comparison a b f g h =
     by-test (ltZ a b) f (λ l. by-test (ltZ b a) h (λ m. g (neither-equal a b l m)))
 
-pub order-bound : (a b : ℤ) → orderOf a b < 3
+pub order-bound : (a b : ℤ) → orderOf a b < orders
 order-bound a b =
     by-comparison a b
     (λ l. omega (arith, less-order a b l))
@@ -123,7 +124,6 @@ pub compared-constant : (k : Condition) (second : Record) → k .form ≡ 0 → 
 unfolding comparedWith
 compared-constant k second e = rw (eq-eqb _ _ e, comparedWith)
 
--- form 1 compares with the second variable's attribute
 pub compared-value : (k : Condition) (second : Record) → (k .form ≡ 0 → ⊥) → comparedWith k second ≡ value (k .attribute2) second
 unfolding comparedWith
 compared-value k second e = rw (ne-eqb _ _ e, comparedWith)
@@ -193,10 +193,10 @@ wrong operator order = xor (entry operator order) (meets operator order)
 
 -- the row has a wrong entry
 wrongRow : ℕ → Bool
-wrongRow operator = ltb (first (wrong operator) 3) 3
+wrongRow operator = ltb (first (wrong operator) orders) orders
 
 -- one test, computed over the whole table
-none-wrong : first wrongRow 5 ≡ 5
+none-wrong : first wrongRow (suc lastOperator) ≡ suc lastOperator
 unfolding first firstFrom wrongRow wrong xor
 none-wrong = refl
 
@@ -207,9 +207,11 @@ same-of-xor true false e = absurd (true≢false e)
 same-of-xor false true e = absurd (true≢false e)
 same-of-xor false false e = refl
 
-pub operators-rule : (operator order : ℕ) → operator < 5 → order < 3 → getD (getD operators operator []) order false ≡ meets operator order
+pub operators-rule :
+    (operator order : ℕ) → operator ≤ lastOperator → order < orders
+    → getD (getD operators operator []) order false ≡ meets operator order
 unfolding wrongRow wrong
 operators-rule operator order h k =
-    let row = first-fails wrongRow 5 operator (omega (arith, none-wrong)) in
-    let right = ltb-false (first (wrong operator) 3) 3 row in
-    same-of-xor (entry operator order) (meets operator order) (first-fails (wrong operator) 3 order (omega arith))
+    let row = first-fails wrongRow (suc lastOperator) operator (omega (arith, none-wrong)) in
+    let right = ltb-false (first (wrong operator) orders) orders row in
+    same-of-xor (entry operator order) (meets operator order) (first-fails (wrong operator) orders order (omega arith))

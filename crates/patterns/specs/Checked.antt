@@ -11,11 +11,11 @@ use Rattle.patterns.specs.declared.Checked.{Checked}
 use Rattle.patterns.specs.Patterns.{headerBytes, mostVariables, mostConditions, conditionBytes, headerBroken, variableCount, conditionCount, duration, setNumber, groupFlag, variableBroken, conditionOf, conditionWord, conditionBroken, mostSets, mostInSet, lastAttribute, lastOperator}
 use Rattle.numbers.specs.Numbers.{upto, first, count}
 
--- so many places, the first of them filled by f, those beyond the count left empty
+-- Serves rule 2.4: so many places, the first of them filled by f, those beyond the count left empty
 unfoldable pub filled : {A : Type 0} → ℕ → A → (ℕ → A) → ℕ → List A
 filled room empty f count = map f (upto 0 count) ++ replicate (room - count) empty
 
--- the first v variables and the first i conditions of the pattern; places beyond are 0
+-- Serves rule 2.4: the pattern with its first v variables and its first i conditions
 unfoldable pub patternUpTo : List ℕ → ℕ → ℕ → Pattern
 patternUpTo bytes v i =
     record {
@@ -33,7 +33,7 @@ patternUpTo bytes v i =
       duration = duration bytes;
     }
 
--- the variables and conditions beside their counts
+-- Rule 2.4: the pattern that the bytes stand for
 unfoldable pub patternOf : List ℕ → Pattern
 patternOf bytes = patternUpTo bytes (variableCount bytes) (conditionCount bytes)
 
@@ -55,7 +55,7 @@ withCondition p i k =
       duration = p .duration;
     }
 
--- a refused pattern gives the record all 0
+-- Rule 2.4: what stands for a refused pattern
 unfoldable pub blank : Pattern
 blank =
     record {
@@ -73,17 +73,19 @@ blank =
       duration = 0;
     }
 
+-- Rule 2.4: the refusal of a pattern
 abbrev pub refused : ℕ → ℕ → Checked
 refused code place = record { code = code; place = place; pattern = blank }
 
--- 3 and 4 name the first bad variable or condition
+-- Rule 8.3: n where all are in order
 unfoldable pub firstBadVariable : List ℕ → ℕ
 firstBadVariable bytes = first (variableBroken bytes) (variableCount bytes)
 
+-- Rule 8.4: c where all are in order
 unfoldable pub firstBadCondition : List ℕ → ℕ
 firstBadCondition bytes = first (λ i. conditionBroken (variableCount bytes) (conditionWord bytes i)) (conditionCount bytes)
 
--- the check of a pattern: under 8 bytes (1), 2, length (1), 3, 4
+-- Rules 7.3, 8.1, 8.14: what the check of a pattern answers
 unfoldable pub patternAnswer : List ℕ → Checked
 patternAnswer bytes =
     elim (ltb (length bytes) headerBytes) [
@@ -103,7 +105,7 @@ patternAnswer bytes =
       ]
     ]
 
--- condition i of a checked pattern
+-- Rule 2.4: condition i of a checked pattern
 unfoldable pub conditionAt : Pattern → ℕ → Condition
 conditionAt p i =
     record {
@@ -116,9 +118,11 @@ conditionAt p i =
       constant = getD (p .constants) i 0;
     }
 
+-- Rule 2.4: the set of variable v
 abbrev pub setOf : Pattern → ℕ → ℕ
 setOf p v = getD (p .sets) v 0
 
+-- Rule 2.4: whether v is a group variable
 abbrev pub isGroup : Pattern → ℕ → Bool
 isGroup p v = getD (p .groups) v false
 

@@ -1,4 +1,4 @@
--- When a condition holds of two records. Comparison is of whole numbers, also between slot and amount.
+-- When a condition holds of two records: whole numbers are compared, whatever attributes they come from.
 use mathlib.Core.Bool.{Bool, true, false, _||_}
 use Prim.Native.Nat.{ℕ, _+_, _-_, _^_}
 use lib.Dec.{eqb, ltb}
@@ -8,11 +8,11 @@ use Rattle.patterns.specs.declared.Condition.{Condition}
 use Rattle.records.specs.declared.Record.{Record}
 use Rattle.records.specs.Records.{classOf}
 
--- 32 bits as two's complement
+-- Rule 3.1: 32 bits as two's complement
 unfoldable pub signed : ℕ → ℤ
 signed word = elim (ltb word (2 ^ 31)) [ true ↦ pos word | false ↦ negsuc (2 ^ 32 - 1 - word) ]
 
--- attributes: 0 core, 1 type, 2 class, 3 slot, 4 amount
+-- Rule 3.1: an attribute of a record, as a whole number
 unfoldable pub value : ℕ → Record → ℤ
 value attribute r =
     elim (eqb attribute 0) [
@@ -29,24 +29,31 @@ value attribute r =
       ]
     ]
 
--- the constant is signed beside amount and unsigned otherwise
+-- Rule 3.1: the constant of a condition, by the attribute in front of it
 unfoldable pub constantValue : ℕ → ℕ → ℤ
 constantValue attribute constant = elim (eqb attribute 4) [ true ↦ signed constant | false ↦ pos constant ]
 
--- what a comparison of two whole numbers gives
+-- Rule 3.2
 abbrev pub less : ℕ
 less = 0
 
+-- Rule 3.2
 abbrev pub equal : ℕ
 equal = 1
 
+-- Rule 3.2
 abbrev pub greater : ℕ
 greater = 2
 
+-- Serves rule 3.2: how many orders there are
+abbrev pub orders : ℕ
+orders = 3
+
+-- Rule 3.2: how a stands to b
 unfoldable pub orderOf : ℤ → ℤ → ℕ
 orderOf a b = elim (ltZ a b) [ true ↦ less | false ↦ elim (ltZ b a) [ true ↦ greater | false ↦ equal ] ]
 
--- which orders meet each operator: 0 =, 1 <, 2 <=, 3 >, 4 >=
+-- Rule 3.2: whether an operator allows an order
 abbrev pub meets : ℕ → ℕ → Bool
 meets operator order =
     elim (eqb operator 0) [
@@ -63,7 +70,7 @@ meets operator order =
       ]
     ]
 
--- what condition k compares its variable's attribute with
+-- Rule 3.3: the right-hand side of condition k, with this event for its second variable
 unfoldable pub comparedWith : Condition → Record → ℤ
 comparedWith k second =
     elim (eqb (k .form) 0) [
@@ -71,7 +78,7 @@ comparedWith k second =
       | false ↦ value (k .attribute2) second
     ]
 
--- condition k holds of a record for its variable and a record for its second variable
+-- Rule 3.3
 unfoldable pub holds : Condition → Record → Record → Bool
 holds k first second = meets (k .operator) (orderOf (value (k .attribute) first) (comparedWith k second))
 

@@ -7,36 +7,45 @@ use lib.ListN.{getD}
 use Rattle.patterns.specs.declared.Condition.{Condition}
 use Rattle.numbers.specs.Numbers.{number, field, count}
 
--- ## Header of 64 bits: edition 4 (=1), variables n 4 (1 to 12), conditions c 8 (0 to 32), zero 8, duration 40
+-- ## Header
 
+-- Rule 2.1
 abbrev pub headerBytes : ℕ
 headerBytes = 8
 
+-- Rule 2.1
 abbrev pub mostVariables : ℕ
 mostVariables = 12
 
+-- Rule 2.1
 abbrev pub mostConditions : ℕ
 mostConditions = 32
 
+-- Rule 2.1: the header as one number
 unfoldable pub header : List ℕ → ℕ
 header bytes = number bytes 0 8
 
+-- Rule 2.1
 abbrev pub edition : List ℕ → ℕ
 edition bytes = field 4 60 (header bytes)
 
+-- Rule 2.1
 abbrev pub variableCount : List ℕ → ℕ
 variableCount bytes = field 4 56 (header bytes)
 
+-- Rule 2.1
 abbrev pub conditionCount : List ℕ → ℕ
 conditionCount bytes = field 8 48 (header bytes)
 
+-- Rule 2.1
 abbrev pub headerZero : List ℕ → ℕ
 headerZero bytes = field 8 40 (header bytes)
 
+-- Rule 2.1
 abbrev pub duration : List ℕ → ℕ
 duration bytes = field 40 0 (header bytes)
 
--- refusal 2: header field outside its values
+-- Rule 8.2
 unfoldable pub headerBroken : List ℕ → Bool
 headerBroken bytes =
     not (eqb (edition bytes) 1)
@@ -45,38 +54,45 @@ headerBroken bytes =
     || (ltb mostConditions (conditionCount bytes)
     || not (eqb (headerZero bytes) 0))))
 
--- ## Then a byte per variable: set number 4, group flag 1, zero 3
+-- ## Variables
 
+-- Rule 2.2
 abbrev pub mostSets : ℕ
 mostSets = 8
 
+-- Rule 2.2
 abbrev pub mostInSet : ℕ
 mostInSet = 6
 
+-- Rule 2.2
 abbrev pub variableByte : List ℕ → ℕ → ℕ
 variableByte bytes v = getD bytes (headerBytes + v) 0
 
+-- Rule 2.2
 unfoldable pub setNumber : List ℕ → ℕ → ℕ
 setNumber bytes v = field 4 4 (variableByte bytes v)
 
+-- Rule 2.2
 unfoldable pub groupFlag : List ℕ → ℕ → Bool
 groupFlag bytes v = eqb (field 1 3 (variableByte bytes v)) 1
 
+-- Rule 2.2
 unfoldable pub variableZero : List ℕ → ℕ → ℕ
 variableZero bytes v = field 3 0 (variableByte bytes v)
 
--- how many of the first k variables have the set number
+-- Rule 2.2: how many of the first k variables are in the set
 abbrev pub members : List ℕ → ℕ → ℕ → ℕ
 members bytes set k = count (λ u. eqb (setNumber bytes u) set) k
 
--- the least and the greatest set number that variable v may have: they begin at 1, never fall, rise by one at most
+-- Rule 2.2: the least set that variable v may be in
 unfoldable pub leastSet : List ℕ → ℕ → ℕ
 leastSet bytes v = elim (eqb v 0) [ true ↦ 1 | false ↦ setNumber bytes (v - 1) ]
 
+-- Rule 2.2: the greatest set that variable v may be in
 unfoldable pub greatestSet : List ℕ → ℕ → ℕ
 greatestSet bytes v = elim (eqb v 0) [ true ↦ 1 | false ↦ setNumber bytes (v - 1) + 1 ]
 
--- refusal 3: variable byte against its rules, judged with those before it
+-- Rule 8.3: by the bytes of variable v and of those before it
 unfoldable pub variableBroken : List ℕ → ℕ → Bool
 variableBroken bytes v =
     ltb (setNumber bytes v) (leastSet bytes v)
@@ -85,15 +101,17 @@ variableBroken bytes v =
     || (ltb mostInSet (members bytes (setNumber bytes v) (suc v))
     || not (eqb (variableZero bytes v) 0))))
 
--- ## Then 64 bits per condition: variable 4, attribute 3, operator 3, form 1, second variable 4, second attribute 3, zero 14, constant 32
+-- ## Conditions
 
+-- Rule 2.3
 abbrev pub conditionBytes : ℕ
 conditionBytes = 8
 
--- where condition i begins, behind n variables
+-- Rule 2.3: where condition i begins, behind n variables
 abbrev pub conditionPlace : ℕ → ℕ → ℕ
 conditionPlace n i = headerBytes + n + conditionBytes * i
 
+-- Rule 2.3: the fields of a condition's 64 bits
 unfoldable pub conditionOf : ℕ → Condition
 conditionOf word =
     record {
@@ -106,22 +124,23 @@ conditionOf word =
       constant = field 32 0 word;
     }
 
+-- Rule 2.3: the bits that must be 0
 unfoldable pub conditionZero : ℕ → ℕ
 conditionZero word = field 14 32 word
 
+-- Rule 2.3: the 64 bits of condition i
 unfoldable pub conditionWord : List ℕ → ℕ → ℕ
 conditionWord bytes i = number bytes (conditionPlace (variableCount bytes) i) 8
 
--- attributes: 0 core, 1 type, 2 class, 3 slot, 4 amount
+-- Rule 2.3: the greatest attribute
 abbrev pub lastAttribute : ℕ
 lastAttribute = 4
 
--- operators: 0 =, 1 <, 2 <=, 3 >, 4 >=
+-- Rule 2.3: the greatest operator
 abbrev pub lastOperator : ℕ
 lastOperator = 4
 
--- Form 0 compares with the constant and has second variable and second attribute 0.
--- Form 1 compares with the second variable's attribute and has constant 0.
+-- Rule 2.3: a field that the form does not use is not 0, or one that it uses names nothing
 unfoldable pub formBroken : ℕ → Condition → Bool
 formBroken n k =
     elim (eqb (k .form) 0) [
@@ -129,7 +148,7 @@ formBroken n k =
       | false ↦ not (eqb (k .constant) 0) || (leb n (k .variable2) || ltb lastAttribute (k .attribute2))
     ]
 
--- refusal 4: variable of n or above, attribute 5-7, operator 5-7, form or zero bits broken
+-- Rule 8.4: of a pattern with n variables, by the condition's 64 bits
 unfoldable pub conditionBroken : ℕ → ℕ → Bool
 conditionBroken n word =
     leb n (conditionOf word .variable)

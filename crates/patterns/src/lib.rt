@@ -5,20 +5,20 @@ ghost use lib.Dec.{eqb};
 ghost use lib.IntN.{pos};
 ghost use lib.ListN.{length};
 ghost use Rattle.numbers.specs.Numbers.{oneIf, first};
-ghost use Rattle.patterns.specs.Patterns.{headerBytes, mostVariables, mostConditions, conditionBytes, header, headerBroken, variableCount, conditionCount, setNumber, groupFlag, members, leastSet, greatestSet, variableBroken, conditionOf, conditionWord, conditionBroken, formBroken};
+ghost use Rattle.patterns.specs.Patterns.{headerBytes, mostVariables, mostConditions, conditionBytes, header, headerBroken, variableCount, conditionCount, setNumber, groupFlag, members, leastSet, greatestSet, variableBroken, conditionOf, conditionWord, conditionBroken, formBroken, lastOperator};
 ghost use Rattle.patterns.specs.Checked.{patternUpTo, withCondition, blank, patternAnswer, refused};
-ghost use Rattle.patterns.specs.Comparison.{signed, value, constantValue, orderOf, meets, holds, raise};
+ghost use Rattle.patterns.specs.Comparison.{signed, value, constantValue, orders, orderOf, meets, holds, raise};
 use records::Record;
 
 const EDITION: u64 = 1;
 
-const HEADER_BYTES: usize = 8;
+pub const HEADER_BYTES: usize = 8;
 
-const CONDITION_BYTES: usize = 8;
+pub const CONDITION_BYTES: usize = 8;
 
-const MOST_VARIABLES: u64 = 12;
+pub const MOST_VARIABLES: usize = 12;
 
-const MOST_CONDITIONS: u64 = 32;
+pub const MOST_CONDITIONS: usize = 32;
 
 const MOST_SETS: u8 = 8;
 
@@ -28,24 +28,24 @@ const LAST_ATTRIBUTE: u8 = 4;
 
 const LAST_OPERATOR: u8 = 4;
 
-// A checked pattern: of each variable its set number and group flag, of each condition its fields, beside their
-// counts n and c and the duration. Places beyond the counts are 0.
+// Rule 2.4: a checked pattern: of each variable its set number and group flag, of each condition its fields, beside the
+// counts n and c and the duration. Places that are not used are 0.
 pub struct Pattern {
-    pub sets: [u8; 12],
-    pub groups: [bool; 12],
-    pub variables: [u8; 32],
-    pub attributes: [u8; 32],
-    pub operators: [u8; 32],
-    pub forms: [u8; 32],
-    pub variables2: [u8; 32],
-    pub attributes2: [u8; 32],
-    pub constants: [u32; 32],
+    pub sets: [u8; MOST_VARIABLES],
+    pub groups: [bool; MOST_VARIABLES],
+    pub variables: [u8; MOST_CONDITIONS],
+    pub attributes: [u8; MOST_CONDITIONS],
+    pub operators: [u8; MOST_CONDITIONS],
+    pub forms: [u8; MOST_CONDITIONS],
+    pub variables2: [u8; MOST_CONDITIONS],
+    pub attributes2: [u8; MOST_CONDITIONS],
+    pub constants: [u32; MOST_CONDITIONS],
     pub n: usize,
     pub c: usize,
     pub duration: u64,
 }
 
-// One condition. Form 0 compares with the constant, form 1 with the second variable's attribute.
+// Rule 2.3: one condition.
 pub struct Condition {
     pub variable: u8,
     pub attribute: u8,
@@ -56,7 +56,7 @@ pub struct Condition {
     pub constant: u32,
 }
 
-// The refusal's number and place with a blank pattern, or code 0 with the checked pattern.
+// Rule 2.4: the refusal's number and place with a blank pattern, or code 0 with the checked pattern.
 pub struct Checked {
     pub code: u8,
     pub place: u32,
@@ -92,8 +92,8 @@ fn is_header_broken(pattern: &[u8]) -> bool
 {
     let head = header_word(pattern);
     let edition = (head >> 60) % 16;
-    let n = (head >> 56) % 16;
-    let c = (head >> 48) % 256;
+    let n = ((head >> 56) % 16) as usize;
+    let c = ((head >> 48) % 256) as usize;
     let zero = (head >> 40) % 256;
     if edition != EDITION {
         return true;
@@ -278,15 +278,15 @@ fn blank_pattern() -> Pattern
     ensures { λ r. ⌜ r ≡ blank ⌝ }
 {
     Pattern {
-        sets: [0; 12],
-        groups: [false; 12],
-        variables: [0; 32],
-        attributes: [0; 32],
-        operators: [0; 32],
-        forms: [0; 32],
-        variables2: [0; 32],
-        attributes2: [0; 32],
-        constants: [0; 32],
+        sets: [0; MOST_VARIABLES],
+        groups: [false; MOST_VARIABLES],
+        variables: [0; MOST_CONDITIONS],
+        attributes: [0; MOST_CONDITIONS],
+        operators: [0; MOST_CONDITIONS],
+        forms: [0; MOST_CONDITIONS],
+        variables2: [0; MOST_CONDITIONS],
+        attributes2: [0; MOST_CONDITIONS],
+        constants: [0; MOST_CONDITIONS],
         n: 0,
         c: 0,
         duration: 0,
@@ -394,8 +394,11 @@ pub fn check_pattern(pattern: &[u8]) -> Checked
 
 // ## When a condition holds
 
-// Which orders meet each operator: a row for each of = < <= > >=, in it less, equal, greater.
-const OPERATORS: [[bool; 3]; 5] = [
+// What a comparison may give: less, equal or greater.
+pub const ORDERS: usize = 3;
+
+// Which orders meet an operator: a row for each of = < <= > >=, in it less, equal, greater (Rule 3.2).
+const OPERATORS: [[bool; ORDERS]; LAST_OPERATOR as usize + 1] = [
     [false, true, false],
     [true, false, false],
     [true, true, false],
@@ -432,7 +435,7 @@ pub fn raised_value(attribute: u8, r: Record) -> u64
     raised_signed(r.amount)
 }
 
-// A condition's constant, raised: signed beside amount and unsigned otherwise.
+// A condition's constant, raised: it has a sign where the attribute is amount (Rule 3.1).
 pub fn raised_constant(attribute: u8, constant: u32) -> u64
     ensures { λ r. ⌜ r ≡ raise (constantValue attribute constant) ⌝ }
 {
@@ -451,7 +454,7 @@ pub fn order(x: u64, y: u64) -> usize
 
 // Whether an order meets an operator.
 pub fn order_meets(operator: usize, order: usize) -> bool
-    requires { ⌜ (operator < 5) × (order < 3) ⌝ }
+    requires { ⌜ (operator ≤ lastOperator) × (order < orders) ⌝ }
     ensures { λ r. ⌜ r ≡ meets operator order ⌝ }
 {
     OPERATORS[operator][order]
@@ -459,7 +462,7 @@ pub fn order_meets(operator: usize, order: usize) -> bool
 
 // Whether x stands to y as the operator says.
 pub fn compare(operator: u8, x: u64, y: u64) -> bool
-    requires { ⌜ operator < 5 ⌝ }
+    requires { ⌜ operator ≤ lastOperator ⌝ }
     ensures { λ r. ⌜ r ≡ meets operator (orderOf (pos x) (pos y)) ⌝ }
 {
     order_meets(operator as usize, order(x, y))
@@ -467,7 +470,7 @@ pub fn compare(operator: u8, x: u64, y: u64) -> bool
 
 // Whether condition k holds of a record for its variable and a record for its second variable.
 pub fn condition_holds(k: Condition, first: Record, second: Record) -> bool
-    requires { ⌜ k .operator < 5 ⌝ }
+    requires { ⌜ k .operator ≤ lastOperator ⌝ }
     ensures { λ r. ⌜ r ≡ holds k first second ⌝ }
 {
     let x = raised_value(k.attribute, first);

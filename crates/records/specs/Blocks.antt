@@ -10,42 +10,44 @@ use Rattle.records.specs.declared.Record.{Record}
 use Rattle.numbers.specs.Numbers.{first}
 use Rattle.records.specs.Records.{recordBytes, recordAt, recordCount, gapKind}
 
+-- Rule 1.1
 abbrev pub mostRecords : ℕ
 mostRecords = 4096
 
--- a refusal has its number and place, and all else 0
+-- Rule 7.2: the answer of a refusal
 abbrev pub refused : ℕ → ℕ → Answer
 refused code place = record { code = code; place = place; used = 0; readings = 0; peak = 0 }
 
--- refusal 5: block not a multiple of 16 bytes, or over 4,096 records
+-- Rule 8.5
 unfoldable pub misfit : List ℕ → Bool
 misfit bytes = not (eqb (length bytes % recordBytes) 0) || ltb mostRecords (recordCount bytes)
 
--- a gap has core, type and amount 0; its slot is the number of entries lost, from 1
+-- Rule 1.3: a gap that has something of an event, or that tells of no loss
 unfoldable pub gapBroken : Record → Bool
 gapBroken r =
     not (eqb (r .core) 0) || (not (eqb (r .«event_type») 0) || (not (eqb (r .amount) 0) || eqb (r .slot) 0))
 
--- refusal 6: kind 2 or 3, last byte not 0, gap fields broken
+-- Rule 8.6: a record that is neither an event nor a gap in order
 unfoldable pub broken : Record → Bool
 broken r = ltb gapKind (r .kind) || (not (eqb (r .last) 0) || (eqb (r .kind) gapKind && gapBroken r))
 
--- refusal 7: time not above the one before
+-- Rules 1.5, 8.7: record i does not come after the one before it; record 0 has none before it
 unfoldable pub late : List ℕ → ℕ → Bool
 late bytes i = ltb 0 i && leb (recordAt bytes i .time) (recordAt bytes (i - 1) .time)
 
--- what record i is refused by, 6 before 7; 0 where it is in order
+-- Rule 8.14: the number that record i is refused with; 0 where it is in order
 unfoldable pub recordRefusal : List ℕ → ℕ → ℕ
 recordRefusal bytes i = elim (broken (recordAt bytes i)) [ true ↦ 6 | false ↦ elim (late bytes i) [ true ↦ 7 | false ↦ 0 ] ]
 
+-- Rule 8.14
 unfoldable pub bad : List ℕ → ℕ → Bool
 bad bytes i = ltb 0 (recordRefusal bytes i)
 
--- the first bad record decides
+-- Rule 8.14: the record that decides; the count of records where all are in order
 unfoldable pub firstBad : List ℕ → ℕ
 firstBad bytes = first (bad bytes) (recordCount bytes)
 
--- the check of a block: 5, then the first bad record; its success is the count of records
+-- Rules 7.3, 8.14: what the check of a block answers
 unfoldable pub blockAnswer : List ℕ → Answer
 blockAnswer bytes =
     elim (misfit bytes) [
@@ -56,7 +58,7 @@ blockAnswer bytes =
       ]
     ]
 
--- a block in order: 0 to 4,096 whole records, each in order, and each record's time above the one before
+-- Rule 1.5: a block in order, as a reader would say it; the check accepts exactly these
 pub record InOrder (bytes : List ℕ) : Type 0 where
   pub whole : length bytes % recordBytes ≡ 0
   pub few : recordCount bytes ≤ mostRecords

@@ -1,4 +1,4 @@
--- Records: 16 bytes, fields packed most significant bit first.
+-- What the bytes of a record mean.
 use mathlib.Core.Bool.{true, false}
 use mathlib.Core.List.{List, map}
 use Prim.Native.Nat.{ℕ, _+_, _*_, _/_}
@@ -7,10 +7,11 @@ use lib.ListN.{getD, length}
 use Rattle.records.specs.declared.Record.{Record}
 use Rattle.numbers.specs.Numbers.{number, field, upto}
 
+-- Rule 1.1
 abbrev pub recordBytes : ℕ
 recordBytes = 16
 
--- kind 2 bits, core 6, type 8, time 40, slot 32, amount 32, zero 8
+-- Rule 1.2: record i of the bytes. The first byte has kind and core.
 unfoldable pub recordAt : List ℕ → ℕ → Record
 recordAt bytes i =
     record {
@@ -23,15 +24,15 @@ recordAt bytes i =
       last = getD bytes (recordBytes * i + 15) 0;
     }
 
--- kind: 0 event, 1 gap
+-- Rule 1.3
 abbrev pub eventKind : ℕ
 eventKind = 0
 
+-- Rule 1.3
 abbrev pub gapKind : ℕ
 gapKind = 1
 
--- The class of an event is read from its type by range: 0-15 bind is class 0, 16-31 upload 1, 32-63 draw or dispatch 2,
--- 64-95 fetch 3, 96-127 barrier 4, 128-255 user mark 5.
+-- Rule 1.4: by the least type that is above the class
 unfoldable pub classOf : ℕ → ℕ
 classOf t =
     elim (ltb t 16) [
@@ -51,10 +52,10 @@ classOf t =
       ]
     ]
 
--- how many whole records there are
+-- Rule 1.1: whole records; what is left over is refused (8.5)
 abbrev pub recordCount : List ℕ → ℕ
 recordCount bytes = length bytes / recordBytes
 
--- a block as a list of records, numbered from 0
+-- Rule 1.1: a block as the list of its records
 unfoldable pub recordsOf : List ℕ → List Record
 recordsOf bytes = map (recordAt bytes) (upto 0 (recordCount bytes))

@@ -6,13 +6,16 @@ ghost use lib.ListN.{length};
 ghost use Rattle.records.specs.Records.{recordBytes, recordAt, classOf};
 ghost use Rattle.records.specs.Blocks.{broken, recordRefusal, blockAnswer, refused};
 
-const RECORD_BYTES: usize = 16;
+pub const RECORD_BYTES: usize = 16;
 
-const MOST_RECORDS: usize = 4096;
+pub const MOST_RECORDS: usize = 4096;
 
-const GAP: u8 = 1;
+// The kinds of a record.
+pub const EVENT: u8 = 0;
 
-// The answer of every call: the refusal's number and place, or, with code 0, what was written and counted.
+pub const GAP: u8 = 1;
+
+// Rule 7.2: the answer of every call: the refusal's number and place, or, with code 0, what was written and counted.
 pub struct Answer {
     pub code: u8,
     pub place: u32,
@@ -21,7 +24,7 @@ pub struct Answer {
     pub peak: u32,
 }
 
-// One record, unpacked.
+// Rule 1.2: one record, unpacked.
 pub struct Record {
     pub kind: u8,
     pub core: u8,

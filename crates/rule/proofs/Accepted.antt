@@ -17,7 +17,7 @@ use Rattle.rule.proofs.Inputs.{input-in-order, times-never-fall}
 
 -- ## A pass over a checked pattern and block
 
--- no reading has 33 bindings, and the report of the whole block has room: it is told in the outcome
+-- no reading has a binding too many, and the report of the whole block has room: it is told in the outcome
 pub record Told (p : Pattern) (B : Block) (room : ℕ) (o : Outcome) : Type 0 where
   pub lines : List Line
   pub short : (i : ℕ) → ¬ TooLong p B i

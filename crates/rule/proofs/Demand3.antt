@@ -1,4 +1,4 @@
--- The customer's third demand, of any answers that meet the promises of the two passes, from the caller's bytes.
+-- The two passes agree (the customer's third demand): of any answers that meet their promises, from the caller's bytes.
 -- Assumes nothing.
 use mathlib.Core.Path.{_≡_, refl, sym, ap, subst, _∙_}
 use mathlib.Core.Logic.{_⊎_, inl, inr, _↔_}
@@ -47,7 +47,7 @@ module _ (p : Pattern) (B : Block) (mono : TimesNeverFall B) where
       whole : (k : ℕ) → Report p B k (closed p B (suc k))
       whole k = report-written p B mono k (closed p B (suc k)) .0 (closed-is p B mono k)
 
--- ## The first two sentences
+-- ## What one accepts, the other accepts
 
 -- two calls write the same numbers: the same result, used and readings
 pub record SameNumbers (a b : Answer) (result other : List ℕ) : Type 0 where
@@ -67,8 +67,7 @@ module _ (pattern block : List ℕ) (limit lentWork lentResult : ℕ) where
         readings = c .told .readings ∙ ap length e ∙ sym (d .told .readings);
       }
 
-  -- When the forward pass accepts, the other, given the same pattern, block and result length, accepts too and writes the
-  -- same numbers.
+  -- what the forward pass accepts: on the same pattern and block, with the same length of result
   pub forward-then-start : (a b : Answer) (work result other : List ℕ) → ForwardCall pattern block limit lentWork lentResult a work result → StartByStartCall pattern block lentResult b other → a .code ≡ 0 → (b .code ≡ 0) × SameNumbers a b result other
   forward-then-start a b work result other f s z =
       let c = forward-call-told pattern block limit lentWork lentResult a work result f z in
@@ -77,8 +76,7 @@ module _ (pattern block : List ℕ) (limit lentWork lentResult : ℕ) where
       let code = ap (λ (x : Answer). x .code) (start-by-start-one pattern block lentResult b (o .answer) other (resultOf lentResult (o .numbers)) s meets .0) in
       (code, told-same a b result other c (start-by-start-told pattern block lentResult b other s code))
 
-  -- When the start-by-start pass accepts and the forward pass's limit and working memory are in order, the forward pass
-  -- writes the same or refuses for want of room for live readings.
+  -- what the start-by-start pass accepts: with limit and working memory in order, the forward pass can only say 10
   pub start-then-forward : (a b : Answer) (work result other : List ℕ) → ForwardCall pattern block limit lentWork lentResult a work result → StartByStartCall pattern block lentResult b other → b .code ≡ 0 → LimitInOrder limit lentWork → ((a .code ≡ 0) × SameNumbers a b result other) ⊎ (a .code ≡ 10)
   start-then-forward a b work result other f s z limited = go f
     where
@@ -105,7 +103,7 @@ module _ (pattern block : List ℕ) (limit lentWork lentResult : ℕ) where
       go (ForwardCall.answered i l numbers (Forward.refuses j (suc (suc zero)) h m n e) w v) = absurd (never-twice (patternIn pattern) (blockIn block) j m)
       go (ForwardCall.answered i l numbers (Forward.refuses j (suc (suc (suc t))) h m n e) w v) = inr (ap (λ (x : Outcome). x .answer .code) e)
 
--- ## The third sentence
+-- ## When the forward pass says 10
 
 -- more readings than the limit stand live after record j, and no other refusal precedes: pattern, block, limit and working
 -- memory are in order, and no row holds at an earlier record, nor 11, 9 or 13 at this one
@@ -124,7 +122,7 @@ many-inside p B mono L j m = go (m .count .readings) (omega (arith, m .more, m .
     go (r ∷ l) h s = live-inside p B mono r j (s r (List·Memᴰ·head refl))
 
 module _ (pattern block : List ℕ) (limit lentWork lentResult : ℕ) (a : Answer) (work result : List ℕ) where
-  -- It gives that refusal only when, by the rule, more readings than its limit stand live after some record, here its place,
+  -- a 10 has its cause: at its place more readings are live than the limit allows,
   pub room-refused-only : ForwardCall pattern block limit lentWork lentResult a work result → a .code ≡ 10 → TooManyFirst pattern block limit lentWork lentResult (a .place)
   room-refused-only (ForwardCall.refused-input n e w r) z = let q = ap (λ (x : Answer). x .code) e in absurd (omega (arith, input-refused pattern block n .upTo))
   room-refused-only (ForwardCall.refused-limit i n e w r) z = let q = ap (λ (x : Answer). x .code) e in absurd (omega arith)
@@ -136,7 +134,7 @@ module _ (pattern block : List ℕ) (limit lentWork lentResult : ℕ) (a : Answe
       subst (TooManyFirst pattern block limit lentWork lentResult) (sym (ap (λ (x : Outcome). x .answer .place) e)) (record { accepted = i; limited = l; many = m; earliest = n })
   room-refused-only (ForwardCall.answered i l numbers (Forward.refuses j (suc (suc (suc (suc t)))) h m n e) w v) z = absurd m
 
-  -- and always then if no other refusal precedes it in document 01's order.
+  -- and the cause has its 10, unless another refusal comes first (rules 8.14, 8.15)
   pub room-refused-always : ForwardCall pattern block limit lentWork lentResult a work result → (j : ℕ) → TooManyFirst pattern block limit lentWork lentResult j → (a .code ≡ 10) × (a .place ≡ j)
   room-refused-always f j h =
       let mono = times-never-fall block (input-in-order pattern block (h .accepted) .ordered) in

@@ -1,5 +1,5 @@
--- Where no reading would take a 33rd binding, the readings that the start-by-start pass finds closed are the list start by
--- start, and so the report. Assumes nothing.
+-- Where no reading would take a binding too many, the readings that the start-by-start pass finds closed are the list
+-- start by start, and so the report. Assumes nothing.
 use mathlib.Core.Path.{_≡_, refl, sym, ap, ap₂, subst, _∙_}
 use mathlib.Core.Bool.{Bool, true, false}
 use mathlib.Core.List.{List, [], _∷_, _++_, map, append-nil, List·Memᴰ, List·Memᴰ·head, List·Memᴰ·not-nil, Memᴰ·append-left, Memᴰ·append-right}
@@ -26,7 +26,7 @@ use Rattle.rule.proofs.Report.{event-in}
 use Rattle.rule.proofs.StartByStartReport.{start-by-start-is}
 use Rattle.rule.proofs.SkipBranch.{until-bound, until-after, before-until, at-until, stays-open, fires-any, any-fires, turn-mem, skip-passes, skip-closes, skip-takes, skip-over, start-event, start-gap, lines-append}
 
--- no reading would take a 33rd binding
+-- no reading would take a binding too many
 abbrev pub NoneOver : List Found → Type 0
 NoneOver l = (j : ℕ) → ¬ List·Memᴰ (over j) l
 

@@ -1,5 +1,5 @@
--- The start-by-start pass finds a reading that would take a 33rd binding at a record exactly where the rule has one, and the
--- least such record is the least by the rule. Assumes nothing.
+-- The start-by-start pass finds a reading that would take a binding too many at a record exactly where the rule has
+-- one, and the least such record is the least by the rule. Assumes nothing.
 use mathlib.Core.Path.{_≡_, refl, sym, ap, subst, _∙_}
 use mathlib.Core.Bool.{true, false}
 use mathlib.Core.List.{List, [], _∷_, List·Memᴰ, List·Memᴰ·head, List·Memᴰ·tail, List·Memᴰ·eq-of-singleton}

@@ -47,7 +47,7 @@ module _ (bytes : List ℕ) where
         go ih (yes e) = subst (λ k. recordAt bytes k .time < recordAt bytes (suc j) .time) (sym e) (ordered .rising j h)
         go ih (no n) = omega (arith, ih (omega arith) (omega arith), ordered .rising j h)
 
-    -- Each record's time, gaps included, is above the one before.
+    -- rule 1.5, of any two records
     pub times-rise : (i j : ℕ) → i < j → j < length (blockIn bytes) → timeAt (blockIn bytes) i < timeAt (blockIn bytes) j
     times-rise i j l h = let c = block-length in omega (arith, rise i j l (omega arith), block-time i (omega arith), block-time j (omega arith))
 

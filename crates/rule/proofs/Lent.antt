@@ -1,5 +1,5 @@
--- What the calls leave in lent memory: it keeps its length, a refusal leaves the result all 0 and every count 0, and working
--- memory is all 0 after every call. Assumes nothing.
+-- What the calls leave in lent memory: it keeps its length, a refusal clears the result and has no counts, and working
+-- memory is cleared by every call (rules 7.1, 7.2). Assumes nothing.
 use mathlib.Core.Path.{_≡_, refl, sym, ap, subst, _∙_}
 use mathlib.Core.List.{List, [], _∷_, _++_}
 use Prim.Native.Nat.{ℕ, zero, suc, _+_, _-_, _*_, _≤_}
@@ -107,7 +107,7 @@ module _ (pattern block : List ℕ) where
   start-by-start-length lent answer result (StartByStartCall.answered z numbers h r) =
       ap length r ∙ length-result lent numbers (start-pass-length (patternIn pattern) (blockIn block) (roomIn lent) _ h)
 
-  -- Used, readings and peak are 0 with a refusal; result slices are all 0.
+  -- a refusal has one of the numbers of section 8, no counts, and a result that is cleared
   pub start-by-start-refused : (lent : ℕ) (answer : Answer) (result : List ℕ) → StartByStartCall pattern block lent answer result → ¬ (answer .code ≡ 0) → RefusedFrom 1 13 answer × (result ≡ zeros lent)
   start-by-start-refused lent answer result (StartByStartCall.refused-input n e r) m = (of-input pattern block answer e m, r)
   start-by-start-refused lent answer result (StartByStartCall.answered z numbers h r) m =
@@ -129,7 +129,7 @@ module _ (pattern block : List ℕ) where
     forward-lengths (ForwardCall.answered z l numbers h w r) =
         (ap length w ∙ length-replicate lentWork 0, ap length r ∙ length-result lentResult numbers (forward-pass-length (patternIn pattern) (blockIn block) (roomIn lentResult) limit _ h))
 
-    -- Working memory is all 0 after every call.
+    -- with success as with a refusal
     pub forward-work : ForwardCall pattern block limit lentWork lentResult answer work result → work ≡ zeros lentWork
     forward-work (ForwardCall.refused-input n e w r) = w
     forward-work (ForwardCall.refused-limit z n e w r) = w

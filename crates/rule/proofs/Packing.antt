@@ -1,5 +1,5 @@
--- How many numbers a reading packs to; two reports that differ never pack to the same numbers, and the packed numbers give
--- the report back. Assumes nothing.
+-- How many numbers a reading packs to; the packed numbers give the report back, so different reports have different
+-- numbers. Assumes nothing.
 use mathlib.Core.Path.{_≡_, refl, sym, ap, ap₂, _∙_}
 use mathlib.Core.Logic.{_⊎_, inl, inr}
 use mathlib.Core.List.{List, [], _∷_, _++_, append-assoc, head-eq-of-cons-eq, tail-eq-of-cons-eq, nil≢cons, cons≢nil, List·Memᴰ, List·Memᴰ·head, List·Memᴰ·tail, List·Memᴰ·not-nil, List·Memᴰ·eq-of-singleton, List·Memᴰ·append-cases}
@@ -27,12 +27,12 @@ length-pack-bindings (b ∷ bs) = simp length-append (omega (arith, length-pack-
 
 -- ## What fits its fields
 
--- each binding: variable 4 bits, record 12
+-- the fields of a binding (rule 6.3)
 pub record BindingFits (b : Binding) : Type 0 where
   pub variable : b .variable < 16
   pub record-number : b .at < 4096
 
--- head: mark 4, zero 6, count of bindings 6 (at most 32)
+-- the fields of a head, and of the bindings behind it
 pub record LineFits (x : Line) : Type 0 where
   pub mark : x .mark < 16
   pub count : length (x .reading) ≤ mostBindings

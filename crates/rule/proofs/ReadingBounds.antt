@@ -1,5 +1,5 @@
--- A reading of more than 32 bindings has grown from one of 33, and it binds records of the block; and a binding of an earlier
--- set is strictly earlier in time, also where times may be equal. Assumes nothing.
+-- A reading with a binding too many has grown from one with just one too many, and it binds records of the block; and a
+-- binding of an earlier set is strictly earlier in time, also where times may be equal. Assumes nothing.
 use mathlib.Core.Path.{_≡_, refl, sym, ap, subst, _∙_}
 use mathlib.Core.Logic.{_⊎_, inl, inr}
 use mathlib.Core.List.{List, [], _∷_, List·Memᴰ, List·Memᴰ·head, List·Memᴰ·tail}

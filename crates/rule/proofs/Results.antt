@@ -1,5 +1,5 @@
--- Reports fit the fields of a result: reports that differ never pack to the same numbers, and what a call leaves in the
--- result gives its report back. Assumes nothing.
+-- Reports fit the fields of a result, so what a call leaves in the result gives its report back, and different reports
+-- leave different results. Assumes nothing.
 use mathlib.Core.Path.{_≡_, refl, sym, ap, ap₂, _∙_}
 use mathlib.Core.List.{List, [], _∷_, _++_, nil≢cons, cons≢nil, head-eq-of-cons-eq, tail-eq-of-cons-eq, List·Memᴰ}
 use Prim.Native.Nat.{ℕ, _+_, _-_, _*_, _^_, _≤_, _<_}
@@ -25,7 +25,7 @@ use Rattle.rule.proofs.Accepted.{CallTold}
 
 -- ## Reports
 
--- a checked pattern, and a block of 4,096 records at most whose times never fall
+-- a checked pattern, and a block of no more than the most records whose times never fall
 pub record CheckedInputs (p : Pattern) (B : Block) : Type 0 where
   pub pattern : InOrder p
   pub few : length B ≤ mostRecords
@@ -41,7 +41,7 @@ mark-range p B r j m (Closes.past a b e) = omega arith
 mark-range p B r j m (Closes.end a e) = omega arith
 
 module _ (p : Pattern) (B : Block) (checked : CheckedInputs p B) (short : (i : ℕ) → ¬ TooLong p B i) (J : ℕ) (l : List Line) (report : Report p B J l) where
-  -- no reading of 33 bindings: every line has room for its fields, and its mark is not 0
+  -- no reading with a binding too many: every line has room for its fields, and its mark is not 0
   line-fits : (x : Line) → List·Memᴰ x l → LineFits x × (1 ≤ x .mark)
   line-fits x m =
       let q = written-reported p B (checked .times) J x (report .sound x m) in

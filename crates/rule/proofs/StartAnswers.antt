@@ -1,5 +1,5 @@
--- What the start-by-start pass and measure answer by what they find meets their promises; and two answers that meet one of
--- these promises are one. Assumes nothing.
+-- What the start-by-start pass and measure answer by what they find meets their promises; and two answers that meet one
+-- of these promises are one. Assumes nothing.
 use mathlib.Core.Path.{_≡_, sym, ap, _∙_}
 use mathlib.Core.List.{List}
 use Prim.Native.Nat.{ℕ, _≤_, _<_}
@@ -49,7 +49,7 @@ module _ (p : Pattern) (B : Block) (room : ℕ) where
 -- ## What is answered by what is found
 
 module _ (p : Pattern) (B : Block) (mono : TimesNeverFall B) where
-  -- the least record at which a reading would take a 33rd binding, and what is reported
+  -- the least record at which a reading would take a binding too many, and what is reported
   abbrev place : ℕ
   place = leastOver (length B) (foundAll p B)
 

@@ -1,4 +1,5 @@
--- Rows P1 to P10 as a table, from the bytes of pattern and block to the answer of each, with the lines that are printed.
+-- Rows P1 to P10 as a table, from the bytes of pattern and block to the answer of each, with the lines that are
+-- printed.
 use mathlib.Core.Path.{_≡_, refl}
 use mathlib.Core.Bool.{Bool, true, false, _&&_}
 use mathlib.Core.List.{List, [], _∷_, _++_}
@@ -19,14 +20,13 @@ use Rattle.automaton.specs.Steps.{stepsFrom, steps}
 use Rattle.automaton.specs.Listing.{stepBytes, stepRoom, stepsListed, listingBytes, allZero, ListingPromise}
 use Rattle.rule.specs.Rule.{Binding, Reading, Line, oldestFirst, Report, binds, choices, passes, inOrder, allowed, fires, isFull}
 use Rattle.rule.specs.Promises.{Outcome}
-use Rattle.rule.specs.Calls.{inputAnswer, patternIn, blockIn, zeros, roomIn, resultOf, workPerReading, mostLive, ForwardCall, StartByStartCall, MeasureCall}
+use Rattle.rule.specs.Calls.{inputAnswer, patternIn, blockIn, zeros, roomIn, resultOf, workPerReading, mostLive, mostResultBytes, ForwardCall, StartByStartCall, MeasureCall}
 use Rattle.rule.specs.Computed.{isEvent, inWindow, only, orElse, any, fired, extend, step, live, lines, closing, closed, report, isMet, peak, scan, forward}
 use Rattle.rule.specs.Starts.{isPast, closesAt, until, markAt, anyFires, inTurn, close, skipFound, startFound, foundFrom, foundAll, linesOf, leastOver, startAnswer, measureAnswer}
 
 -- ## Patterns and blocks by their bytes
 
--- sets {0, 1+} and {2}; duration 100; conditions 0: 0.class = 0; 1: 1.class = 1; 2: 2.class = 2; 3: 0.core = 1.core;
--- 4: 0.core = 2.core
+-- Rule 10.1
 abbrev pub benchPattern : List ℕ
 benchPattern =
     0x13 ∷ 0x05 ∷ 0x00 ∷ 0x00 ∷ 0x00 ∷ 0x00 ∷ 0x00 ∷ 0x64 ∷ 0x10 ∷ 0x18 ∷ 0x20
@@ -36,11 +36,11 @@ benchPattern =
     ∷ 0x00 ∷ 0x22 ∷ 0x00 ∷ 0x00 ∷ 0x00 ∷ 0x00 ∷ 0x00 ∷ 0x00
     ∷ 0x00 ∷ 0x24 ∷ 0x00 ∷ 0x00 ∷ 0x00 ∷ 0x00 ∷ 0x00 ∷ 0x00 ∷ []
 
--- one variable, no conditions, duration 0
+-- a single variable, no conditions, duration 0
 abbrev pub onePattern : List ℕ
 onePattern = 0x11 ∷ 0x00 ∷ 0x00 ∷ 0x00 ∷ 0x00 ∷ 0x00 ∷ 0x00 ∷ 0x00 ∷ 0x10 ∷ []
 
--- sets {0} and {1}, no conditions, duration 100
+-- two sets of a variable each within 100 cycles, no conditions
 abbrev pub twoPattern : List ℕ
 twoPattern = 0x12 ∷ 0x00 ∷ 0x00 ∷ 0x00 ∷ 0x00 ∷ 0x00 ∷ 0x00 ∷ 0x64 ∷ 0x10 ∷ 0x20 ∷ []
 
@@ -49,7 +49,7 @@ abbrev pub inBytes : ℕ → ℕ → List ℕ
 inBytes zero x = []
 inBytes (suc n) x = (x / 256 ^ n % 256) ∷ inBytes n x
 
--- time/core/type, other fields 0
+-- an event by its time, core and type, slot and amount 0
 abbrev pub eventBytes : ℕ → ℕ → ℕ → List ℕ
 eventBytes time core type = core ∷ type ∷ (inBytes 5 time ++ zeros 9)
 
@@ -64,6 +64,7 @@ benchFront =
     ++ eventBytes 60 2 3
     ++ gapBytes 70 9
 
+-- Rule 10.1
 abbrev pub benchBlock : List ℕ
 benchBlock =
     benchFront
@@ -81,8 +82,7 @@ benchSteps =
     0x0000000000000001 ∷ 0x0001000000000002 ∷ 0x001100000000000a ∷ 0x0020000000000009 ∷ 0x0021000000000002
     ∷ 0x003100000000000a ∷ 0x0032800000000014 ∷ []
 
--- What must come of a pass: the answer, and the numbers written. Success has used, readings and peak; a refusal has its
--- number and place.
+-- what must come of a pass that succeeds, and of one that refuses: the answer, and the numbers written
 abbrev pub gives : ℕ → ℕ → ℕ → List ℕ → Outcome
 gives used readings peak numbers =
     record {
@@ -93,7 +93,7 @@ gives used readings peak numbers =
 abbrev pub refuses : ℕ → ℕ → Outcome
 refuses code place = record { answer = refused code place; numbers = [] }
 
--- each line: mark, then variable@record
+-- a line by its mark and its bindings, the oldest first
 abbrev pub prints : ℕ → Reading → Line
 prints mark bindings = record { mark = mark; reading = oldestFirst bindings }
 
@@ -113,53 +113,55 @@ succeeds pattern block limit lentWork lentResult used readings peak numbers =
     asks pattern block limit lentWork lentResult (gives used readings peak numbers) (gives used readings 0 numbers)
     (gives used readings 0 [] .answer)
 
--- the match program runs the forward pass with L 256 and a result slice of 32,768 numbers
+-- what the match program lends (rule 9.1)
 abbrev pub fullLimit : ℕ
-fullLimit = 256
+fullLimit = mostLive
 
 abbrev pub fullWork : ℕ
-fullWork = 40960
+fullWork = workPerReading * mostLive
 
 abbrev pub fullResult : ℕ
-fullResult = 65536
+fullResult = mostResultBytes
 
--- what it prints: ok 3 14 5
+-- Rule 10.2
 abbrev pub P1 : Row
 P1 = succeeds benchPattern benchBlock fullLimit fullWork fullResult 14 3 5 benchNumbers
 
--- 7 steps; the last is 0x0032800000000014
+-- Rule 10.2
 abbrev pub P2 : Row
 P2 = lists benchPattern 56 (stepsListed 7) benchSteps
 
--- L 5 succeeds; L 4 is 10 at record 5
+-- Rule 10.2
 abbrev pub P3 : Row
 P3 = succeeds benchPattern benchBlock 5 800 fullResult 14 3 5 benchNumbers
 
+-- Rule 10.2
 abbrev pub P4 : Row
 P4 = asks benchPattern benchBlock 4 640 fullResult (refuses 10 5) (gives 14 3 0 benchNumbers) (gives 14 3 0 [] .answer)
 
--- result of 14 numbers fits; 13 is 11
+-- Rule 10.2
 abbrev pub P5 : Row
 P5 = succeeds benchPattern benchBlock fullLimit fullWork 28 14 3 5 benchNumbers
 
+-- Rule 10.2
 abbrev pub P6 : Row
 P6 = asks benchPattern benchBlock fullLimit fullWork 26 (refuses 11 0) (refuses 11 0) (gives 14 3 0 [] .answer)
 
--- no records: no readings, used 0, peak 0
+-- Rule 10.2
 abbrev pub P7 : Row
 P7 = succeeds benchPattern [] fullLimit fullWork fullResult 0 0 0 []
 
--- one variable, one event, duration 0, no conditions: used 2, mark 2
+-- Rule 10.2
 abbrev pub P8 : Row
 P8 = succeeds onePattern (eventBytes 10 0 0) fullLimit fullWork fullResult 2 1 1 (8193 ∷ 0 ∷ [])
 
--- sets {0} and {1}, no conditions, duration 100, events at 10 and 110: used 3
+-- Rule 10.2
 abbrev pub P9 : Row
 P9 =
     succeeds twoPattern (eventBytes 10 0 0 ++ eventBytes 110 0 0) fullLimit fullWork fullResult 3 1 2
     (8194 ∷ 0 ∷ 4097 ∷ [])
 
--- at 10 and 111: used 0
+-- Rule 10.2
 abbrev pub P10 : Row
 P10 = succeeds twoPattern (eventBytes 10 0 0 ++ eventBytes 111 0 0) fullLimit fullWork fullResult 0 0 1 []
 
@@ -167,12 +169,14 @@ P10 = succeeds twoPattern (eventBytes 10 0 0 ++ eventBytes 111 0 0) fullLimit fu
 abbrev pub lineFrom0 : Line
 lineFrom0 = prints 3 (bound 0 0 ∷ bound 1 2 ∷ bound 1 3 ∷ bound 2 4 ∷ [])
 
+-- Rule 10.1: the lines that the match program writes of the example
 abbrev pub benchLines : List Line
 benchLines =
     lineFrom0
     ∷ prints 2 (bound 1 8 ∷ bound 0 9 ∷ bound 1 10 ∷ bound 2 11 ∷ [])
     ∷ prints 2 (bound 0 9 ∷ bound 1 10 ∷ bound 2 11 ∷ []) ∷ []
 
+-- Rule 10.1
 abbrev pub benchReport : Row
 benchReport = reports benchPattern benchBlock benchLines
 
@@ -190,6 +194,7 @@ frontReport = reports benchPattern benchFront (lineFrom0 ∷ [])
 abbrev pub oneStep : Row
 oneStep = lists onePattern 56 (stepsListed 1) (0 ∷ [])
 
+-- Rule 10.2: the rows, and three more that other theorems use
 abbrev pub table : List Row
 table = P1 ∷ P2 ∷ P3 ∷ P4 ∷ P5 ∷ P6 ∷ P7 ∷ P8 ∷ P9 ∷ P10 ∷ benchReport ∷ front ∷ frontReport ∷ oneStep ∷ []
 
@@ -197,7 +202,7 @@ table = P1 ∷ P2 ∷ P3 ∷ P4 ∷ P5 ∷ P6 ∷ P7 ∷ P8 ∷ P9 ∷ P10 ∷ b
 abbrev pub listingOf : ℕ → List ℕ → List ℕ
 listingOf lent l = listingBytes l ++ allZero (lent - stepBytes * length l)
 
--- What a row says, by the promises of the calls. Working memory is all 0 after every call.
+-- Rule 10.2: what a row says, by the promises of the calls
 abbrev pub Says : Row → Type 0
 Says (asks pattern block limit lentWork lentResult f s m) =
     ForwardCall pattern block limit lentWork lentResult (f .answer) (zeros lentWork) (resultOf lentResult (f .numbers))

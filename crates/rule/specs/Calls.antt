@@ -15,7 +15,7 @@ use Rattle.patterns.specs.Checked.{patternAnswer}
 use Rattle.rule.specs.Rule.{Block}
 use Rattle.rule.specs.Promises.{Forward, StartByStart, Measure}
 
--- Order: under 8 bytes (1), 2, length (1), 3, 4, 5, the first bad record (6 before 7).
+-- Rule 8.14: what pattern and block are refused with; code 0 where both are in order
 unfoldable pub inputAnswer : List ℕ → List ℕ → Answer
 inputAnswer pattern block =
     elim (eqb (patternAnswer pattern .code) 0) [
@@ -23,25 +23,28 @@ inputAnswer pattern block =
       | true ↦ blockAnswer block
     ]
 
--- the checked pattern and the block that the bytes stand for
+-- Serves rules 7.5, 7.6, 7.7: the checked pattern of the bytes
 abbrev pub patternIn : List ℕ → Pattern
 patternIn pattern = patternAnswer pattern .pattern
 
+-- Serves rules 7.5, 7.6, 7.7: the records of the bytes
 abbrev pub blockIn : List ℕ → Block
 blockIn block = recordsOf block
 
--- so many bytes that are all 0
+-- Rule 7.1: so many bytes that are 0
 abbrev pub zeros : ℕ → List ℕ
 zeros lent = replicate lent 0
 
--- a result of so many bytes holds half as many numbers, two bytes each, high first; a left-over byte is 0
+-- Rule 7.1: how many numbers a result of so many bytes has room for
 abbrev pub roomIn : ℕ → ℕ
 roomIn lent = lent / 2
 
+-- Rule 7.1: the bytes of a result that holds these numbers
 abbrev pub resultOf : ℕ → List ℕ → List ℕ
 resultOf lent numbers = bytesOf numbers ++ zeros (lent - 2 * length numbers)
 
--- start_by_start: its answer, and the result after it
+-- Rule 7.6: from the bytes of pattern and block and the length of the result to the answer and the result after the
+-- call
 pub data StartByStartCall (pattern block : List ℕ) (lent : ℕ) (answer : Answer) (result : List ℕ) : Type 0 where
   refused-input :
       ¬ (inputAnswer pattern block .code ≡ 0) → answer ≡ inputAnswer pattern block → result ≡ zeros lent
@@ -53,7 +56,7 @@ pub data StartByStartCall (pattern block : List ℕ) (lent : ℕ) (answer : Answ
       → result ≡ resultOf lent numbers
       → StartByStartCall pattern block lent answer result
 
--- measure: its answer; it writes nothing
+-- Rule 7.7: from the bytes of pattern and block to the answer
 pub data MeasureCall (pattern block : List ℕ) (answer : Answer) : Type 0 where
   refused-input :
       ¬ (inputAnswer pattern block .code ≡ 0) → answer ≡ inputAnswer pattern block → MeasureCall pattern block answer
@@ -61,20 +64,26 @@ pub data MeasureCall (pattern block : List ℕ) (answer : Answer) : Type 0 where
       inputAnswer pattern block .code ≡ 0 → Measure (patternIn pattern) (blockIn block) answer
       → MeasureCall pattern block answer
 
--- working memory of at least 80 16-bit numbers per reading of L
+-- Rule 7.5
 abbrev pub workPerReading : ℕ
 workPerReading = 160
 
+-- Rule 7.5
 abbrev pub mostLive : ℕ
 mostLive = 256
 
--- row 8: L 1 to 256, and working memory not short
+-- Rule 7.8: the longest result slice of a C call, which the match program lends too
+abbrev pub mostResultBytes : ℕ
+mostResultBytes = 65536
+
+-- Rule 8.8: limit and working memory are in order
 pub record LimitInOrder (limit lent : ℕ) : Type 0 where
   pub some : 1 ≤ limit
   pub few : limit ≤ mostLive
   pub room : workPerReading * limit ≤ lent
 
--- forward: its answer, the working memory and the result after it. Working memory is all 0 after every call.
+-- Rule 7.5: from the bytes of pattern and block, the limit and the lengths of lent memory to the answer and the memory
+-- after the call
 pub data ForwardCall (pattern block : List ℕ) (limit lentWork lentResult : ℕ) (answer : Answer) (work result : List ℕ) : Type 0 where
   refused-input :
       ¬ (inputAnswer pattern block .code ≡ 0) → answer ≡ inputAnswer pattern block → work ≡ zeros lentWork

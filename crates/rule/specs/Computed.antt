@@ -78,7 +78,7 @@ report p B = closed p B (suc (length B))
 
 -- ## The answer of the forward pass
 
--- row t of those that the forward pass may meet at record j: 11, 9, 13, 10
+-- cause t of a refusal of the forward pass at record j, in the order of rule 8.15
 unfoldable pub isMet : Pattern → Block → ℕ → ℕ → ℕ → ℕ → Bool
 isMet p B L room j zero = ltb room (length (pack (closed p B (suc j))))
 isMet p B L room j (suc zero) =

@@ -7,7 +7,7 @@ use Prim.Native.Nat.{ℕ, _≤_, _<_}
 use Rattle.patterns.specs.declared.Pattern.{Pattern}
 use Rattle.rule.specs.Rule.{Block, Binding, Reading, Event, InWindow, lastOf, fires, isFull, Line, Closes, Rising}
 
--- record i leaves the reading r as it is: each event that isn't bound fires no step at all from the state then held
+-- record i leaves the reading r as it is: it is an event inside the window, and fires no step
 pub record Passed (p : Pattern) (B : Block) (r : Reading) (i : ℕ) : Type 0 where
   pub event : Event B i
   pub near : InWindow p B r i
@@ -18,14 +18,13 @@ pub record Kept (p : Pattern) (B : Block) (r : Reading) (k : ℕ) : Type 0 where
   pub later : lastOf r < k
   pub passed : (i : ℕ) → lastOf r < i → i < k → Passed p B r i
 
--- the record of a is bound, as the reading r goes on: all bound events lie within the duration of the first
+-- the record of a is bound, as the reading r goes on
 pub record Taken (p : Pattern) (B : Block) (r : Reading) (a : Binding) : Type 0 where
   pub event : Event B (a .at)
   pub near : InWindow p B r (a .at)
   pub fire : fires p B r (a .variable) (a .at) ≡ true
 
--- A partial reading is a list of one or more bindings (variable, event), events rising, each a step that fires from the
--- state before it. The first event fires from the empty state. No gap stands between them.
+-- rules 5.4 to 5.6, binding by binding
 abbrev pub Partial : Pattern → Block → Reading → Type 0
 Partial p B [] = ⊥
 Partial p B (b ∷ []) = Event B (b .at) × (fires p B [] (b .variable) (b .at) ≡ true)
@@ -36,7 +35,7 @@ pub record Live (p : Pattern) (B : Block) (r : Reading) (k : ℕ) : Type 0 where
   pub reads : Partial p B r
   pub kept : Kept p B r k
 
--- If its state then holds all variables it is reported, otherwise it vanishes. The line is reported at record J or before.
+-- the line is reported at record J or before
 pub record Reported (p : Pattern) (B : Block) (J : ℕ) (x : Line) : Type 0 where
   pub at : ℕ
   pub by : at ≤ J

@@ -11,11 +11,12 @@ use Rattle.rule.specs.Rule.{Block, Binding, Reading, Line, lastOf, Parti
 
 -- ## Counts and refusals
 
+-- Rule 7.5: no reading is there twice
 abbrev pub Distinct : List Reading → Type 0
 Distinct [] = Unit {0}
 Distinct (r ∷ l) = (¬ List·Memᴰ r l) × Distinct l
 
--- n readings are live after record j
+-- Rule 7.5: n readings are live after record j
 pub record LiveCount (p : Pattern) (B : Block) (j n : ℕ) : Type 0 where
   pub readings : List Reading
   pub distinct : Distinct readings
@@ -23,23 +24,23 @@ pub record LiveCount (p : Pattern) (B : Block) (j n : ℕ) : Type 0 where
   pub complete : (r : Reading) → LiveAfter p B r j → List·Memᴰ r readings
   pub size : length readings ≡ n
 
--- peak: the most readings live after any record
+-- Rule 7.5: n is the greatest number of readings that are live after a record; 0 where there is no record
 pub record IsPeak (p : Pattern) (B : Block) (n : ℕ) : Type 0 where
   pub most : (j m : ℕ) → j < length B → LiveCount p B j m → m ≤ n
   pub reached : (n ≡ 0) ⊎ ((j : ℕ) × (j < length B) × LiveCount p B j n)
 
--- count of bindings 6 (at most 32)
+-- Rule 8.9
 abbrev pub mostBindings : ℕ
 mostBindings = 32
 
--- refusal 9: a partial reading would take a 33rd binding, at record j
+-- Rule 8.9: at record j
 pub record TooLong (p : Pattern) (B : Block) (j : ℕ) : Type 0 where
   pub reading : Reading
   pub reads : PartialReading p B reading
   pub ends : lastOf reading ≡ j
   pub long : length reading ≡ suc mostBindings
 
--- refusal 13: one record bound twice in one reading, which ends at record j
+-- Rule 8.13: by the binding to record j
 pub record Twice (p : Pattern) (B : Block) (j : ℕ) : Type 0 where
   pub last : Binding
   pub before : Reading
@@ -49,19 +50,19 @@ pub record Twice (p : Pattern) (B : Block) (j : ℕ) : Type 0 where
   pub bound : List·Memᴰ other before
   pub same : other .at ≡ j
 
--- refusal 10: more than L live after a record
+-- Rule 8.10: after record j
 pub record TooMany (p : Pattern) (B : Block) (L j : ℕ) : Type 0 where
   pub number : ℕ
   pub count : LiveCount p B j number
   pub more : L < number
 
--- refusal 11: reported readings need more numbers than lent, by what has closed at record J or before
+-- Rule 8.11: for what has closed at record J or before
 pub record NoRoom (p : Pattern) (B : Block) (room J : ℕ) : Type 0 where
   pub lines : List Line
   pub report : Report p B J lines
   pub more : room < length (pack lines)
 
--- at one record, 11 (closings come first), 9, 13, 10
+-- Rule 8.15: the causes for a refusal at record j, in their order
 abbrev pub Meets : Pattern → Block → ℕ → ℕ → ℕ → ℕ → Type 0
 Meets p B L room j zero = NoRoom p B room j
 Meets p B L room j (suc zero) = TooLong p B j
@@ -71,21 +72,23 @@ Meets p B L room j (suc (suc (suc (suc n)))) = ⊥
 
 -- ## What the passes answer, and the numbers of the lent result after them
 
+-- Rule 7.2: an answer, and the numbers of the lent result after the call
 pub record Outcome : Type 0 where
   pub answer : Answer
   pub numbers : List ℕ
 
--- Used, readings and peak are 0 with a refusal; result slices are all 0.
+-- Rule 7.2: a refusal, with a result of so many numbers
 abbrev pub refusedWith : ℕ → ℕ → ℕ → Outcome
 refusedWith room code place = record { answer = refused code place; numbers = replicate room 0 }
 
+-- Rule 8.15: what each cause is refused with
 abbrev pub refusal : ℕ → ℕ → ℕ → Outcome
 refusal room j zero = refusedWith room 11 0
 refusal room j (suc zero) = refusedWith room 9 j
 refusal room j (suc (suc zero)) = refusedWith room 13 j
 refusal room j (suc (suc (suc n))) = refusedWith room 10 j
 
--- Success gives code and place 0, used (numbers written), readings, and peak. Unused numbers are 0.
+-- Rule 7.2
 abbrev pub success : ℕ → List Line → ℕ → Outcome
 success room l peak =
     record {
@@ -93,7 +96,7 @@ success room l peak =
       numbers = pack l ++ replicate (room - length (pack l)) 0;
     }
 
--- The forward pass refuses at the earliest record that gives 9, 10, 11 or 13; at one record, 11, 9, 13, 10.
+-- Rules 7.5, 8.15: the earliest cause decides
 pub data Forward (p : Pattern) (B : Block) (L room : ℕ) (a : Outcome) : Type 0 where
   refuses :
       (j t : ℕ) → j ≤ length B → Meets p B L room j t
@@ -107,7 +110,7 @@ pub data Forward (p : Pattern) (B : Block) (L room : ℕ) (a : Outcome) : Type 0
       → a ≡ success room l peak
       → Forward p B L room a
 
--- The start-by-start pass refuses 9, then 13, then 11, each over the whole block; peak is 0 from it.
+-- Rules 7.6, 8.16: each cause is looked for in the whole block
 pub data StartByStart (p : Pattern) (B : Block) (room : ℕ) (a : Outcome) : Type 0 where
   long :
       (j : ℕ) → TooLong p B j → ((i : ℕ) → i < j → ¬ TooLong p B i)
@@ -128,17 +131,16 @@ pub data StartByStart (p : Pattern) (B : Block) (room : ℕ) (a : Outcome) : Typ
       → a ≡ success room l 0
       → StartByStart p B room a
 
--- each count stops at 4,294,967,295
+-- Rule 7.7
 abbrev pub mostCounted : ℕ
 mostCounted = 4294967295
 
--- Measure gives readings and used of the start-by-start pass and writes nothing. Success gives code and place 0; peak is 0
--- from that pass.
+-- Rule 7.7: the answer of a success
 abbrev pub measured : List Line → Answer
 measured l =
     record { code = 0; place = 0; used = min (length (pack l)) mostCounted; readings = min (length l) mostCounted; peak = 0 }
 
--- The start-by-start pass refuses 9, then 13, each over the whole block; measure refuses as it does, but never 11.
+-- Rules 7.7, 8.16
 pub data Measure (p : Pattern) (B : Block) (a : Answer) : Type 0 where
   long : (j : ℕ) → TooLong p B j → ((i : ℕ) → i < j → ¬ TooLong p B i) → a ≡ refused 9 j → Measure p B a
   twice :

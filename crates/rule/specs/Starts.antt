@@ -17,29 +17,26 @@ use Rattle.rule.specs.Promises.{Outcome, mostBindings, refusedWith, succ
 use Rattle.rule.specs.Computed.{isEvent, only, any, line}
 use Rattle.rule.specs.Promises.{measured}
 
--- If its state then holds all variables it is reported: a full reading that closes, with its mark; or a partial reading
--- would take a 33rd binding, at a record.
+-- a full reading that closes, with its mark; or a reading that would take a binding too many, at a record
 pub data Found : Type 0 where
   closed : ℕ → Reading → Found
   over : ℕ → Found
 
 -- ## Where a start's readings close
 
--- a record more than the duration after its first, which is record i
+-- record j is past the window of a reading that begins at record i
 unfoldable pub isPast : Pattern → Block → ℕ → ℕ → Bool
 isPast p B i j = ltb (timeAt B i + p .duration) (timeAt B j)
 
--- A live reading closes at: a gap; a record more than the duration after its first. Here at record j, the first being i.
+-- record j closes the readings that begin at record i
 unfoldable pub closesAt : Pattern → Block → ℕ → ℕ → Bool
 closesAt p B i j = ltb i j && (not (isEvent B j) || isPast p B i j)
 
--- Or at the end of the block. So what closes a start's readings depends on its first record alone: it is the first such
--- record after it, or the end.
+-- the record that closes them, or the end: it depends on their first record alone
 unfoldable pub until : Pattern → Block → ℕ → ℕ
 until p B i = first (closesAt p B i) (length B)
 
--- a gap (mark 3, before the window is looked at); a record more than the duration after its first (mark 1); the end of the
--- block (mark 2): the mark of what closes at record j
+-- the mark of what closes at record j
 unfoldable pub markAt : Block → ℕ → ℕ
 markAt B j = elim (isEvent B j) [ true ↦ pastMark | false ↦ elim (ltb j (length B)) [ true ↦ gapMark | false ↦ endMark ] ]
 
@@ -57,16 +54,16 @@ withBinding r v j = record { variable = v; at = j } ∷ r
 unfoldable pub anyFires : Pattern → Block → Reading → ℕ → Bool
 anyFires p B r j = any (λ v. fires p B r v j) (variablesOf p)
 
--- takes each firing variable in turn: what follows each of the n variables from v on that passes the test
+-- what follows each of the n variables from v on that passes the test
 unfoldable pub inTurn : (ℕ → Bool) → (ℕ → List Found) → ℕ → ℕ → List Found
 inTurn test next v n = collect next (filter test (upto v n))
 
--- If its state then holds all variables it is reported, otherwise it vanishes.
+-- a reading that closes is found if it is full
 unfoldable pub close : Pattern → ℕ → Reading → List Found
 close p mark r = only (isFull p r) (closed mark r ∷ [])
 
--- The start-by-start pass skips to the next record that fires, then takes each firing variable in turn and goes on from
--- there: from a reading that is held before record j, with n records left until it closes.
+-- from a reading that is held before record j, with n records left until it closes: on to the next record that fires,
+-- and there each firing variable in turn
 unfoldable pub skipFound : Pattern → Block → ℕ → ℕ → ℕ → Reading → List Found
 skipFound p B mark zero j r = close p mark r
 skipFound p B mark (suc n) j r =
@@ -96,11 +93,11 @@ pub record NextFire (p : Pattern) (B : Block) (r : Reading) (j end q : ℕ) : Ty
 
 -- ## All starts
 
--- The first event fires from the empty state.
+-- what is found from the readings that begin at record i
 unfoldable pub startFound : Pattern → Block → ℕ → List Found
 startFound p B i = only (isEvent B i) (branchUntil p B (markOf p B i) (until p B i) i [] 0)
 
--- one from each starting record in turn: from the n records from i on
+-- from the n records from i on, one after another
 unfoldable pub foundFrom : Pattern → Block → ℕ → ℕ → List Found
 foundFrom p B i n = collect (startFound p B) (upto i n)
 
@@ -115,14 +112,13 @@ linesOf [] = []
 linesOf (closed mark r ∷ l) = line mark r ∷ linesOf l
 linesOf (over j ∷ l) = linesOf l
 
--- least such record, where a reading would take a 33rd binding; none where there is no such record below it
+-- the least record at which a reading would take a binding too many; none where there is no such record below it
 unfoldable pub leastOver : ℕ → List Found → ℕ
 leastOver none [] = none
 leastOver none (closed mark r ∷ l) = leastOver none l
 leastOver none (over j ∷ l) = min j (leastOver none l)
 
--- The start-by-start pass refuses 9, then 13, then 11, each over the whole block; peak is 0 from it. No record is bound
--- twice in one reading, so 13 is not given.
+-- Serves rule 8.16: the answer by what is found. No record is bound twice in one reading, so 13 is not given.
 unfoldable pub startAnswer : Pattern → Block → ℕ → Outcome
 startAnswer p B room =
     elim (ltb (leastOver (length B) (foundAll p B)) (length B)) [
@@ -133,7 +129,7 @@ startAnswer p B room =
       ]
     ]
 
--- measure refuses as it does, but never 11
+-- Serves rule 8.16: measure's answer by what is found
 unfoldable pub measureAnswer : Pattern → Block → Answer
 measureAnswer p B =
     elim (ltb (leastOver (length B) (foundAll p B)) (length B)) [

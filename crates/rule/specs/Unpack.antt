@@ -7,7 +7,7 @@ use lib.ListN.{length, take, drop}
 use Rattle.numbers.specs.Numbers.{field}
 use Rattle.rule.specs.Rule.{Binding, Reading, Line}
 
--- each binding: variable 4, record 12
+-- the binding of a number
 abbrev pub bindingIn : ℕ → Binding
 bindingIn number = record { variable = field 4 12 number; at = field 12 0 number }
 
@@ -16,14 +16,16 @@ abbrev pub bindingsIn : List ℕ → Reading
 bindingsIn [] = []
 bindingsIn (number ∷ l) = bindingsIn l ++ (bindingIn number ∷ [])
 
--- head: mark 4, zero 6, count of bindings 6
+-- the mark of a head
 abbrev pub markIn : ℕ → ℕ
 markIn head = field 4 12 head
 
+-- the count of bindings of a head
 abbrev pub countIn : ℕ → ℕ
 countIn head = field 6 0 head
 
--- so many lines at most: a head, then so many bindings, then the rest. Unused numbers are 0: no line has a head of 0.
+-- so many lines at most: a head, then so many bindings, then the rest. No line has a head of 0, so what follows a 0 is
+-- unused.
 unfoldable pub unpackLines : ℕ → List ℕ → List Line
 unpackLines zero numbers = []
 unpackLines (suc n) [] = []

@@ -9,6 +9,8 @@ use lib.ListN.{length, getD, set, length-set}
 use lib.Seq.{getD-set-same, getD-set-other}
 use Rattle.numbers.specs.Numbers.{number}
 use Rattle.numbers.proofs.Numbers.{number-2}
+use Rattle.records.specs.Blocks.{mostRecords}
+use Rattle.rule.specs.Promises.{mostBindings}
 use Rattle.slots.specs.Slots.{slotBytes, bindingOf, bindingsIn, countIn, stateIn, heldIn, grow}
 use Rattle.slots.proofs.Slots.{bindingsIn-same}
 
@@ -32,7 +34,7 @@ abbrev stored : List ℕ → ℕ → ℕ → ℕ → List ℕ
 stored slot count state word =
     set (set (set (set (set slot 1 (count + 1)) 2 (state / 256)) 3 (state % 256)) (4 + 2 * count) (word / 256)) (4 + 2 * count + 1) (word % 256)
 
-module _ (slot : List ℕ) (count state word : ℕ) (size : length slot ≡ slotBytes) (e : count ≡ countIn slot) (h : count < 32) where
+module _ (slot : List ℕ) (count state word : ℕ) (size : length slot ≡ slotBytes) (e : count ≡ countIn slot) (h : count < mostBindings) where
   length-stored : length (stored slot count state word) ≡ slotBytes
   length-stored = simp length-set size
 
@@ -90,7 +92,7 @@ module _ (slot : List ℕ) (count state word : ℕ) (size : length slot ≡ slot
 
 -- the slot as it is stored, with variable v bound to record i
 pub held-grown :
-    (slot : List ℕ) (i v count state : ℕ) → length slot ≡ slotBytes → count ≡ countIn slot → count < 32 → i < 4096
+    (slot : List ℕ) (i v count state : ℕ) → length slot ≡ slotBytes → count ≡ countIn slot → count < mostBindings → i < mostRecords
     → state ≡ bitOr (stateIn slot) (2 ^ v)
     → (heldIn (stored slot count state (v * 4096 + i)) ≡ grow i v (heldIn slot))
     × (length (stored slot count state (v * 4096 + i)) ≡ slotBytes)

@@ -5,6 +5,7 @@ use Prim.Native.Nat.{ℕ, _+_, _-_, _*_, _≤_, _<_}
 use native.Mathlib.Omega.{arith}
 use lib.ListN.{length, take, drop, getD, set, length-set, length-take, length-drop}
 use borrow.Rule.Slice.PartMut.{putMid, same-len-mid}
+use Rattle.rule.specs.Promises.{mostBindings}
 use Rattle.slots.specs.Slots.{slotBytes, countIn, heldIn}
 use Rattle.numbers.specs.Numbers.{bytesOf, written}
 use Rattle.slots.specs.Results.{lineNumbers}
@@ -12,7 +13,7 @@ use Rattle.slots.proofs.Results.{put-head}
 use Rattle.slots.proofs.Slots.{line-bytes}
 
 pub line-put :
-    (result slot part : List ℕ) (at mark count : ℕ) → count ≡ countIn slot → mark < 16 → length slot ≡ slotBytes → countIn slot ≤ 32
+    (result slot part : List ℕ) (at mark count : ℕ) → count ≡ countIn slot → mark < 16 → length slot ≡ slotBytes → countIn slot ≤ mostBindings
     → ((k : ℕ) → getD slot k 0 < 256)
     → at + 2 + 2 * countIn slot ≤ length result
     → part ≡ take (4 + 2 * count - 4) (drop 4 slot)

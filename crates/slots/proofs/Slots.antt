@@ -1,5 +1,5 @@
--- What slots hold: the bindings of a slot, and slots in a memory that is written elsewhere, stored to and skipped. Assumes
--- nothing.
+-- What slots hold: the bindings of a slot, and slots in a memory that is written elsewhere, stored to and skipped.
+-- Assumes nothing.
 use mathlib.Core.Path.{_≡_, refl, sym, ap, _∙_}
 use mathlib.Core.List.{List, [], _∷_, _++_, append-assoc}
 use Prim.Native.Nat.{ℕ, zero, suc, _+_, _-_, _*_, _^_, _/_, _%_, _≤_, _<_}
@@ -11,6 +11,7 @@ use Rattle.numbers.specs.Numbers.{number, written}
 use Rattle.numbers.proofs.Numbers.{number-2}
 use Rattle.numbers.proofs.Cases.{by-order}
 use Rattle.rule.specs.Rule.{packed, packBindings}
+use Rattle.rule.specs.Promises.{mostBindings}
 use Rattle.slots.specs.Slots.{Held, slotBytes, bindingOf, bindingsIn, countIn, heldIn, slotAt, slotsAt}
 use Rattle.numbers.specs.Numbers.{bytesOf}
 use Rattle.slots.specs.Results.{lineNumbers}
@@ -67,7 +68,7 @@ packed-bindings slot (suc n) below h =
 
 -- a reported reading: the head, then the slot's own bytes
 pub line-bytes :
-    (mark : ℕ) (slot : List ℕ) → mark < 16 → countIn slot ≤ 32 → ((k : ℕ) → getD slot k 0 < 256) → 4 + 2 * countIn slot ≤ length slot
+    (mark : ℕ) (slot : List ℕ) → mark < 16 → countIn slot ≤ mostBindings → ((k : ℕ) → getD slot k 0 < 256) → 4 + 2 * countIn slot ≤ length slot
     → bytesOf (lineNumbers mark (heldIn slot .bindings)) ≡ (mark * 16) ∷ countIn slot ∷ take (2 * countIn slot) (drop 4 slot)
 unfolding heldIn bytesOf
 line-bytes mark slot m c below h =

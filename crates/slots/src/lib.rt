@@ -4,26 +4,41 @@ ghost use mathlib.Core.List.{[], _++_};
 ghost use Prim.Native.Nat.{_+_, _-_, _*_, _^_, _/_, _%_, _≤_, _<_};
 ghost use lib.ListN.{length, take, replicate};
 ghost use Rattle.numbers.specs.Numbers.{number, bytesOf, written};
+ghost use Rattle.records.specs.Blocks.{mostRecords};
+ghost use Rattle.patterns.specs.Patterns.{mostVariables};
+ghost use Rattle.rule.specs.Promises.{mostBindings};
 ghost use Rattle.slots.specs.Slots.{slotBytes, countIn, stateIn, heldIn, grow};
 ghost use Rattle.slots.specs.Results.{lineNumbers};
 
 // The bytes of a slot.
-const SLOT_BYTES: usize = 80;
+pub const SLOT_BYTES: usize = 80;
+
+pub const MOST_BINDINGS: usize = 32;
+
+// The longest result slice of a C call, which the match program lends too.
+pub const MOST_RESULT_BYTES: usize = 65536;
+
+// The marks of a reading that closes.
+pub const PAST_MARK: u8 = 1;
+
+pub const END_MARK: u8 = 2;
+
+pub const GAP_MARK: u8 = 3;
 
 // A binding is a number of 16 bits: the variable, then 12 bits for the record.
 const RECORD_NUMBERS: usize = 4096;
 
 // A reading by value.
 pub struct Slot {
-    pub bytes: [u8; 80],
+    pub bytes: [u8; SLOT_BYTES],
 }
 
 // A slot out of lent memory.
-pub fn load(part: &[u8]) -> [u8; 80]
+pub fn load(part: &[u8]) -> [u8; SLOT_BYTES]
     requires { ⌜ length (now part) ≡ slotBytes ⌝ }
     ensures { λ r. ⌜ r ≡ now (part .entry) ⌝ }
 {
-    let mut slot = [0u8; 80];
+    let mut slot = [0u8; SLOT_BYTES];
     let mut i = 0;
     while i < SLOT_BYTES {
         slot[i] = part[i];
@@ -33,7 +48,7 @@ pub fn load(part: &[u8]) -> [u8; 80]
 }
 
 // A slot into lent memory.
-pub fn store(part: &mut [u8], slot: &[u8; 80])
+pub fn store(part: &mut [u8], slot: &[u8; SLOT_BYTES])
     requires { ⌜ (length (now part) ≡ slotBytes) × (length (now slot) ≡ slotBytes) ⌝ }
     ensures { λ r. ⌜ now (part .exit) ≡ now (slot .entry) ⌝ }
 {
@@ -77,15 +92,15 @@ pub fn binding_record(slot: &[u8], i: usize) -> usize
 }
 
 // No bindings.
-pub fn empty_slot() -> [u8; 80]
+pub fn empty_slot() -> [u8; SLOT_BYTES]
     ensures { λ r. ⌜ (heldIn r ≡ record { state = 0; bindings = [] }) × (length r ≡ slotBytes) × (countIn r ≡ 0) ⌝ }
 {
-    [0u8; 80]
+    [0u8; SLOT_BYTES]
 }
 
 // One binding more: variable v to record i.
 pub fn bind(slot: &mut [u8], i: usize, v: usize)
-    requires { ⌜ (length (now slot) ≡ slotBytes) × (countIn (now slot) < 32) × (v < 12) × (i < 4096) ⌝ }
+    requires { ⌜ (length (now slot) ≡ slotBytes) × (countIn (now slot) < mostBindings) × (v < mostVariables) × (i < mostRecords) ⌝ }
     ensures { λ r. ⌜ (heldIn (now (slot .exit)) ≡ grow i v (heldIn (now (slot .entry)))) × (length (now (slot .exit)) ≡ slotBytes) × (countIn (now (slot .exit)) ≡ countIn (now (slot .entry)) + 1) ⌝ }
 {
     let count = count_of(slot);
@@ -122,7 +137,7 @@ fn copy(to: &mut [u8], from: &[u8])
 
 // One reported reading, from byte `at` on: its head, then its bindings, which stand in a slot as in a result.
 pub fn put_line(result: &mut [u8], at: usize, mark: u8, slot: &[u8])
-    requires { ⌜ (mark < 16) × (length (now slot) ≡ slotBytes) × (countIn (now slot) ≤ 32) × (at + 2 + 2 * countIn (now slot) ≤ length (now result)) ⌝ }
+    requires { ⌜ (mark < 16) × (length (now slot) ≡ slotBytes) × (countIn (now slot) ≤ mostBindings) × (at + 2 + 2 * countIn (now slot) ≤ length (now result)) ⌝ }
     ensures { λ r. ⌜ now (result .exit) ≡ written (now (result .entry)) at (bytesOf (lineNumbers mark (heldIn (now (slot .entry)) .bindings))) ⌝ }
 {
     let count = count_of(slot);

@@ -1,4 +1,4 @@
--- The customer's third demand, of any answers that meet the promises of the two C calls of the passes: what
+-- The two passes agree, of any answers that meet the promises of their C calls: what
 -- Rattle.rule.proofs.Demand3 says of the Rattle calls, read off the packed answers. Assumes nothing.
 use mathlib.Core.Path.{_≡_, _∙_, refl, sym, ap, subst}
 use mathlib.Core.Logic.{_⊎_, inl, inr, _↔_}
@@ -58,8 +58,7 @@ not-eight : (word code : ℕ) → word ≡ packedAnswer (refused 8 0) → codeIn
 not-eight word code w e = sym e ∙ code-on (refused 8 0) word w 8 (omega arith) refl
 
 module _ (pattern block : List ℕ) (limit lentWork lentResult word other : ℕ) (work result after : List ℕ) where
-  -- When the forward call accepts, the other, given the same pattern, block and result length, accepts too and writes the
-  -- same numbers.
+  -- what the forward call accepts: on the same pattern and block, with the same length of result
   pub host-forward-then-start :
       ForwardHost pattern block limit lentWork lentResult word work result
       → StartByStartHost pattern block lentResult other after
@@ -73,8 +72,7 @@ module _ (pattern block : List ℕ) (limit lentWork lentResult word other : ℕ)
       let q = forward-then-start pattern block limit lentWork lentResult a b work result after f s accepted in
       (code-on b other w 0 (omega arith) (q .0), same-words a b word other v w result after accepted (q .0) (q .1))
 
-  -- When the start-by-start call accepts and the forward call's limit and working memory are in order, the forward call
-  -- writes the same or refuses for want of room for live readings.
+  -- what the start-by-start call accepts: with limit and working memory in order, the forward call can only say 10
   pub host-start-then-forward :
       ForwardHost pattern block limit lentWork lentResult word work result
       → StartByStartHost pattern block lentResult other after
@@ -93,7 +91,7 @@ module _ (pattern block : List ℕ) (limit lentWork lentResult word other : ℕ)
       go (inl q) = inl (code-on a word v 0 (omega arith) (q .0), same-words a b word other v w result after (q .0) accepted (q .1))
       go (inr q) = inr (code-on a word v 10 (omega arith) q)
 
--- ## The third sentence
+-- ## When the forward call says 10
 
 module _ (pattern block : List ℕ) (limit lentWork lentResult word : ℕ) (work result : List ℕ) where
   -- a record of the block, so its number fits the field
@@ -102,8 +100,8 @@ module _ (pattern block : List ℕ) (limit lentWork lentResult word : ℕ) (work
       let inputs = input-in-order pattern block (h .accepted) in
       omega (arith, many-inside (patternIn pattern) (blockIn block) (times-never-fall block (inputs .ordered)) limit j (h .many), checked-input pattern block inputs .few)
 
-  -- It refuses for want of room for live readings, at record j, exactly when by the rule more readings than its limit stand
-  -- live after record j and no other refusal precedes it in document 01's order, the result slice's among them.
+  -- 10 at record j, exactly where more readings than the limit are live after it and no other refusal comes first, that of
+  -- the result slice among them
   pub host-room-refused :
       ForwardHost pattern block limit lentWork lentResult word work result
       → (j : ℕ)

@@ -10,10 +10,11 @@ use Rattle.automaton.specs.Listing.{ListingPromise}
 use Rattle.rule.specs.Calls.{inputAnswer, zeros, StartByStartCall, ForwardCall}
 use Rattle.spaldep.specs.Packed.{packedAnswer}
 
+-- Rule 7.8
 abbrev pub mostResultBytes : ℕ
 mostResultBytes = 65536
 
--- A result slice of odd length or over 65,536 bytes is 8 there.
+-- Rules 7.8, 8.8
 pub record ResultInOrder (lent : ℕ) : Type 0 where
   pub even : lent % 2 ≡ 0
   pub short : lent ≤ mostResultBytes
@@ -23,12 +24,12 @@ pub record Fitness (lent : ℕ) (unfit : Bool) : Type 0 where
   pub good : unfit ≡ false → ResultInOrder lent
   pub bad : unfit ≡ true → ¬ ResultInOrder lent
 
--- the answer where the result slice is not in order: 8 comes after 5 to 7
+-- Rule 8.8: the answer where the result slice is not in order: pattern and block come first
 unfoldable pub unfitAnswer : List ℕ → List ℕ → Answer
 unfitAnswer pattern block =
     elim (eqb (inputAnswer pattern block .code) 0) [ true ↦ refused 8 0 | false ↦ inputAnswer pattern block ]
 
--- spaldep_start_by_start: the packed answer, and the result after it
+-- Rule 7.8: spaldep_start_by_start, the packed answer and the result after it
 pub data StartByStartHost (pattern block : List ℕ) (lent word : ℕ) (result : List ℕ) : Type 0 where
   refused-result :
       inputAnswer pattern block .code ≡ 0 → ¬ ResultInOrder lent → word ≡ packedAnswer (refused 8 0) → result ≡ zeros lent
@@ -38,7 +39,7 @@ pub data StartByStartHost (pattern block : List ℕ) (lent word : ℕ) (result :
       → (answer : Answer) → StartByStartCall pattern block lent answer result → word ≡ packedAnswer answer
       → StartByStartHost pattern block lent word result
 
--- spaldep_forward: the packed answer, and the working memory and the result after it
+-- Rule 7.8: spaldep_forward, the packed answer, and working memory and result after it
 pub data ForwardHost (pattern block : List ℕ) (limit lentWork lentResult word : ℕ) (work result : List ℕ) : Type 0 where
   refused-result :
       inputAnswer pattern block .code ≡ 0 → ¬ ResultInOrder lentResult → word ≡ packedAnswer (refused 8 0)
@@ -50,7 +51,7 @@ pub data ForwardHost (pattern block : List ℕ) (limit lentWork lentResult word 
       → word ≡ packedAnswer answer
       → ForwardHost pattern block limit lentWork lentResult word work result
 
--- spaldep_list_automaton: the packed answer, and the listing after it
+-- Rule 7.8: spaldep_list_automaton, the packed answer and the listing after it
 pub record ListingHost (pattern : List ℕ) (lent word : ℕ) (listing : List ℕ) : Type 0 where
   pub answer : Answer
   pub listed : ListingPromise pattern lent answer listing

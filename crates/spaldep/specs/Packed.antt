@@ -1,18 +1,19 @@
--- The answer of a C call: one 64-bit number, high field first: code 8, place or used 24, readings 16, peak 16.
+-- The answer of a C call, as one number.
 use mathlib.Core.Bool.{true, false}
 use Prim.Native.Nat.{ℕ, _+_, _-_, _*_, _^_, min}
 use lib.Dec.{eqb}
 use Rattle.records.specs.declared.Answer.{Answer}
 use Rattle.numbers.specs.Numbers.{field}
 
--- a field of so many bits stops at its largest
+-- Rule 7.8: a field of so many bits stops at its largest number
 abbrev pub capped : ℕ → ℕ → ℕ
 capped bits x = min x (2 ^ bits - 1)
 
--- place with a refusal, used with success
+-- Rule 7.8
 unfoldable pub placeOrUsed : Answer → ℕ
 placeOrUsed a = elim (eqb (a .code) 0) [ true ↦ a .used | false ↦ a .place ]
 
+-- Rule 7.8
 unfoldable pub packedAnswer : Answer → ℕ
 packedAnswer a =
     capped 8 (a .code) * 2 ^ 56

@@ -11,36 +11,40 @@ use Rattle.rule.specs.Rule.{Line, Report}
 use Rattle.rule.specs.Calls.{patternIn, blockIn, workPerReading, mostLive, ForwardCall}
 use Rattle.lines.specs.Text.{answerText}
 
--- pattern length (two bytes, high first), pattern, block to the end
+-- Rule 9.1
 abbrev pub lengthBytes : ℕ
 lengthBytes = 2
 
+-- Rule 9.1
 abbrev pub patternLength : List ℕ → ℕ
 patternLength input = number input 0 lengthBytes
 
+-- Rule 9.1
 abbrev pub patternBytes : List ℕ → List ℕ
 patternBytes input = take (patternLength input) (drop lengthBytes input)
 
+-- Rule 9.1
 abbrev pub blockBytes : List ℕ → List ℕ
 blockBytes input = drop (lengthBytes + patternLength input) input
 
--- L 256 and a result slice of 32,768 numbers
+-- Rule 9.1
 abbrev pub workBytes : ℕ
 workBytes = workPerReading * mostLive
 
+-- Rule 9.1
 abbrev pub resultBytes : ℕ
 resultBytes = 2 * 32768
 
--- the answer, and the result after it
+-- Rule 9.1: the answer, and the result after it
 pub data Answered (input : List ℕ) (answer : Answer) (result : List ℕ) : Type 0 where
-  -- too little for the length or pattern is 1; a length that is cut short is short of its pattern too
+  -- a length that is cut short is short of its pattern too
   short : length input < lengthBytes + patternLength input → answer ≡ refused 1 0 → Answered input answer result
   called :
       lengthBytes + patternLength input ≤ length input → (work : List ℕ)
       → ForwardCall (patternBytes input) (blockBytes input) mostLive workBytes resultBytes answer work result
       → Answered input answer result
 
--- the text: of a refusal its one line, else the lines of the report and the last one
+-- Rule 9.2: what is written on an input
 pub record Program (input text : List ℕ) : Type 0 where
   pub answer : Answer
   pub result : List ℕ

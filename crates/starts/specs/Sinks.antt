@@ -1,5 +1,5 @@
--- What the start-by-start pass has written and counted, and what a finding does to it. No promise of a public call names
--- this file.
+-- What the start-by-start pass has written and counted, and what a finding does to it. No promise of a public call
+-- names this file.
 use mathlib.Core.Bool.{true, false}
 use mathlib.Core.List.{List, [], _∷_, _++_}
 use Prim.Native.Nat.{ℕ, _+_, _-_, _*_, _/_, min}
@@ -14,7 +14,8 @@ use Rattle.rule.specs.Starts.Found.{closed, over}
 use Rattle.slots.specs.Results.{lineNumbers}
 use Rattle.starts.specs.declared.Counts.{Counts}
 
--- the lent result beside the counts: numbers, readings, and the least record at which a reading would take a 33rd binding
+-- the lent result beside the counts: numbers, readings, and the least record at which a reading would take a binding
+-- too many
 pub record Sink : Type 0 where
   pub memory : List ℕ
   pub used : ℕ
@@ -37,8 +38,8 @@ unfoldable pub put : List ℕ → ℕ → List ℕ → List ℕ
 put memory at bytes =
     elim (leb (at + length bytes) (length memory)) [ true ↦ written memory at bytes | false ↦ memory ]
 
--- a reading that closed is written behind the numbers so far and counted; of the records with a 33rd binding the least is
--- kept
+-- a reading that closed is written behind the numbers so far and counted; of the records with a binding too many the
+-- least is kept
 unfoldable pub emit : Sink → Found → Sink
 emit s (closed mark r) =
     record {
@@ -53,7 +54,7 @@ unfoldable pub emits : Sink → List Found → Sink
 emits s [] = s
 emits s (e ∷ l) = emits (emit s e) l
 
--- nothing counted; the number of no record stands for none with a 33rd binding
+-- nothing counted; the number of no record stands for none with a binding too many
 abbrev pub noneYet : Counts
 noneYet = record { used = 0; readings = 0; least = mostRecords }
 

@@ -8,7 +8,7 @@ ghost use Rattle.records.specs.Records.{recordCount, recordsOf};
 ghost use Rattle.records.specs.Blocks.{InOrder as BlockInOrder, mostRecords};
 ghost use Rattle.patterns.specs.Checked.{InOrder};
 ghost use Rattle.patterns.specs.Patterns.{mostVariables};
-ghost use Rattle.rule.specs.Promises.{mostCounted};
+ghost use Rattle.rule.specs.Promises.{mostBindings, mostCounted};
 ghost use Rattle.rule.specs.Starts.{foundAll};
 ghost use Rattle.rule.specs.Starts.Found.{closed};
 ghost use Rattle.rule.specs.Calls.{StartByStartCall, MeasureCall};
@@ -18,25 +18,14 @@ ghost use Rattle.firing.specs.Firing.{Fit};
 ghost use Rattle.starts.specs.Sinks.{sinkOf, sum as sumTo, emit, emits, noneYet, answerBy, leftBy, measureBy};
 ghost use Rattle.starts.specs.Skips.{leavingBy, agreeingBy, Cans, Reads, Usable, Ready, Taking, Firing, NextBy, Closed, Skipped, Branched, OpenTo, StartIs, AllStarted};
 
-const RECORD_BYTES: usize = 16;
-
 // The number of no record.
-const MOST_RECORDS: usize = 4096;
+const NO_RECORD: usize = records::MOST_RECORDS;
 
-const MOST_BINDINGS: usize = 32;
-
-// Where measure's counts stop.
+// Where measure's counts stop (Rule 7.7).
 const MOST_COUNTED: usize = 4294967295;
 
 // Where counts stop: beyond any room.
 const STOP: usize = 18446744073709551615;
-
-// The marks of a reading that closes.
-const PAST_MARK: u8 = 1;
-
-const END_MARK: u8 = 2;
-
-const GAP_MARK: u8 = 3;
 
 // What one start fixes: how many variables and conditions there are, the record at which its readings close, and their mark.
 pub struct Start {
@@ -46,7 +35,7 @@ pub struct Start {
     pub mark: u8,
 }
 
-// The numbers and readings so far, and the least record at which a reading would take a 33rd binding.
+// The numbers and readings so far, and the least record at which a reading would take a binding too many.
 pub struct Counts {
     pub used: usize,
     pub readings: usize,
@@ -70,7 +59,7 @@ fn sum(a: usize, b: usize) -> usize
 
 // Writes a reading that closed, where there is room, and counts it.
 fn report(result: &mut [u8], slot: &[u8], mark: u8, counts: Counts) -> Counts
-    requires { ⌜ (length (now slot) ≡ slotBytes) × (countIn (now slot) ≤ 32) × (mark < 16) ⌝ }
+    requires { ⌜ (length (now slot) ≡ slotBytes) × (countIn (now slot) ≤ mostBindings) × (mark < 16) ⌝ }
     ensures { λ o. ⌜ sinkOf (now (result .exit)) o ≡ emit (sinkOf (now (result .entry)) counts) (closed mark (heldIn (now (slot .entry)) .bindings)) ⌝ }
 {
     let bindings = slots::count_of(slot);
@@ -91,7 +80,7 @@ fn report(result: &mut [u8], slot: &[u8], mark: u8, counts: Counts) -> Counts
 
 // Whether a state holds all n variables.
 fn is_full(state: u64, n: usize) -> bool
-    requires { ⌜ n ≤ 12 ⌝ }
+    requires { ⌜ n ≤ mostVariables ⌝ }
     ensures { λ r. ⌜ r ≡ within (2 ^ n - 1) state ⌝ }
 {
     numbers::is_within(numbers::weight(n) - 1, state)
@@ -99,7 +88,7 @@ fn is_full(state: u64, n: usize) -> bool
 
 // A reading closes: it is reported where its state is full.
 fn close(result: &mut [u8], slot: &[u8], s: Start, counts: Counts) -> Counts
-    requires { ⌜ (Reads (s .n) (s .until) (now slot)) × (s .n ≤ 12) × (s .mark < 16) ⌝ }
+    requires { ⌜ (Reads (s .n) (s .until) (now slot)) × (s .n ≤ mostVariables) × (s .mark < 16) ⌝ }
     ensures { λ o. ⌜ Closed s (now (slot .entry)) (sinkOf (now (result .entry)) counts) (sinkOf (now (result .exit)) o) ⌝ }
 {
     if is_full(slots::state_of(slot), s.n) {
@@ -109,7 +98,7 @@ fn close(result: &mut [u8], slot: &[u8], s: Start, counts: Counts) -> Counts
     }
 }
 
-// A 33rd binding would be taken at record j: the least such record is kept.
+// A reading would take a binding too many at record j: the least such record is kept.
 fn note_over(counts: Counts, j: usize) -> Counts
     ensures { λ o. ⌜ (o .used ≡ counts .used) × (o .readings ≡ counts .readings) × (o .least ≡ min (counts .least) j) ⌝ }
 {
@@ -127,19 +116,19 @@ fn note_over(counts: Counts, j: usize) -> Counts
 // ## Which variables fire
 
 // For each record no variable.
-fn no_cans() -> [u16; 4096]
+fn no_cans() -> [u16; records::MOST_RECORDS]
     ensures { λ r. ⌜ r ≡ replicate mostRecords 0 ⌝ }
 {
-    [0; 4096]
+    [0; records::MOST_RECORDS]
 }
 
 // For each record the variables that can fire there by its own conditions, settled once a call and not once a reading.
-fn all_can(plan: &[u64; 102], n: usize, c: usize, block: &[u8]) -> [u16; 4096]
+fn all_can(plan: &[u64; 102], n: usize, c: usize, block: &[u8]) -> [u16; records::MOST_RECORDS]
     requires { ⌜ Usable (now plan) (now block) n c ⌝ }
     ensures { λ r. ⌜ Cans (now (plan .entry)) (now (block .entry)) n c r ⌝ }
 {
     let mut cans = no_cans();
-    let count = block.len() / RECORD_BYTES;
+    let count = block.len() / records::RECORD_BYTES;
     let mut i = 0;
     while i < count {
         cans[i] = firing::can_fire(plan, n, c, block, i) as u16;
@@ -186,7 +175,7 @@ fn firing_of(block: &[u8], plan: &[u64; 102], i: usize, asked: u64, slot: &[u8])
 fn next_fire(
     block: &[u8],
     plan: &[u64; 102],
-    cans: &[u16; 4096],
+    cans: &[u16; records::MOST_RECORDS],
     s: Start,
     j: usize,
     slot: &[u8],
@@ -221,7 +210,7 @@ fn next_fire(
 fn skip(
     block: &[u8],
     plan: &[u64; 102],
-    cans: &[u16; 4096],
+    cans: &[u16; records::MOST_RECORDS],
     slot: slots::Slot,
     j: usize,
     v: usize,
@@ -238,7 +227,7 @@ fn skip(
     if fire.at == s.until {
         return close(result, &bytes, s, counts);
     }
-    if slots::count_of(&bytes) == MOST_BINDINGS {
+    if slots::count_of(&bytes) == slots::MOST_BINDINGS {
         return note_over(counts, fire.at);
     }
     branch(
@@ -258,7 +247,7 @@ fn skip(
 fn branch(
     block: &[u8],
     plan: &[u64; 102],
-    cans: &[u16; 4096],
+    cans: &[u16; records::MOST_RECORDS],
     slot: slots::Slot,
     j: usize,
     firing: u64,
@@ -304,16 +293,16 @@ fn start_at(block: &[u8], n: usize, c: usize, duration: u64, i: usize, opened: u
     ensures { λ s. ⌜ StartIs (now (block .entry)) n c duration i s ⌝ }
 {
     let first = records::time_at(block, i);
-    let count = block.len() / RECORD_BYTES;
+    let count = block.len() / records::RECORD_BYTES;
     let mut k = larger(i + 1, opened);
     while k < count {
         let r = records::unpack(block, k);
-        if r.kind != 0 {
+        if r.kind != records::EVENT {
             return Start {
                 n,
                 c,
                 until: k,
-                mark: GAP_MARK,
+                mark: slots::GAP_MARK,
             };
         }
         if is_past(first, duration, r.time) {
@@ -321,7 +310,7 @@ fn start_at(block: &[u8], n: usize, c: usize, duration: u64, i: usize, opened: u
                 n,
                 c,
                 until: k,
-                mark: PAST_MARK,
+                mark: slots::PAST_MARK,
             };
         }
         k += 1;
@@ -330,7 +319,7 @@ fn start_at(block: &[u8], n: usize, c: usize, duration: u64, i: usize, opened: u
         n,
         c,
         until: count,
-        mark: END_MARK,
+        mark: slots::END_MARK,
     }
 }
 
@@ -350,13 +339,13 @@ fn each_start(
     let mut counts = Counts {
         used: 0,
         readings: 0,
-        least: MOST_RECORDS,
+        least: NO_RECORD,
     };
     let cans = all_can(plan, n, c, block);
     let first = leaving(plan, n, 0);
     let empty = slots::empty_slot();
     let none = slots::Slot { bytes: empty };
-    let count = block.len() / RECORD_BYTES;
+    let count = block.len() / records::RECORD_BYTES;
     let mut opened = 0;
     let mut i = 0;
     while i < count {
@@ -365,7 +354,7 @@ fn each_start(
             i += 1;
             continue;
         }
-        if records::unpack(block, i).kind != 0 {
+        if records::unpack(block, i).kind != records::EVENT {
             i += 1;
             continue;
         }
@@ -400,7 +389,7 @@ fn refuse(result: &mut [u8], answer: records::Answer) -> records::Answer
 fn finish(result: &mut [u8], counts: Counts) -> records::Answer
     ensures { λ a. ⌜ (a ≡ answerBy counts (length (now (result .entry)) / 2)) × (now (result .exit) ≡ leftBy counts (now (result .entry))) ⌝ }
 {
-    if counts.least < MOST_RECORDS {
+    if counts.least < NO_RECORD {
         return refuse(result, records::refusal(9, counts.least as u32));
     }
     if result.len() / 2 < counts.used {
@@ -416,14 +405,14 @@ fn finish(result: &mut [u8], counts: Counts) -> records::Answer
     }
 }
 
-// A count that stops at 4,294,967,295.
+// A count, or where it stops (Rule 7.7).
 fn capped(count: usize) -> u64
     ensures { λ r. ⌜ r ≡ min count mostCounted ⌝ }
 {
-    if count < 4294967295 {
+    if count < MOST_COUNTED {
         count as u64
     } else {
-        4294967295
+        MOST_COUNTED as u64
     }
 }
 
@@ -431,7 +420,7 @@ fn capped(count: usize) -> u64
 fn measured(counts: Counts) -> records::Answer
     ensures { λ a. ⌜ a ≡ measureBy counts ⌝ }
 {
-    if counts.least < MOST_RECORDS {
+    if counts.least < NO_RECORD {
         return records::refusal(9, counts.least as u32);
     }
     records::Answer {
@@ -443,9 +432,8 @@ fn measured(counts: Counts) -> records::Answer
     }
 }
 
-// The start-by-start pass over a pattern's and a block's bytes: it skips to the next record that fires, then takes each
-// firing variable in turn and goes on from there. It refuses 9, then 11, each over the whole block; no record is bound twice
-// in one reading, so 13 is not given.
+// The start-by-start pass over the bytes of a pattern and a block (Rule 7.6), with the refusals of Rule 8.16. No code
+// looks for 13: a reading's records rise, so it never binds one again.
 pub fn start_by_start(pattern: &[u8], block: &[u8], result: &mut [u8]) -> records::Answer
     ensures { λ a. ⌜ StartByStartCall (now (pattern .entry)) (now (block .entry)) (length (now (result .entry))) a (now (result .exit)) ⌝ }
 {
@@ -461,7 +449,7 @@ pub fn start_by_start(pattern: &[u8], block: &[u8], result: &mut [u8]) -> record
     finish(result, counts)
 }
 
-// Readings and used of the start-by-start pass, over no result.
+// What the start-by-start pass would count, over no result (Rule 7.7).
 pub fn measure(pattern: &[u8], block: &[u8]) -> records::Answer
     ensures { λ a. ⌜ MeasureCall (now (pattern .entry)) (now (block .entry)) a ⌝ }
 {

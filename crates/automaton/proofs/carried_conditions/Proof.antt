@@ -9,6 +9,7 @@ use Rattle.numbers.specs.Numbers.{oneIf}
 use Rattle.numbers.proofs.Bits.{mask-none, mask-more, mask-bound}
 use Rattle.patterns.specs.declared.Condition.{Condition}
 use Rattle.patterns.specs.declared.Pattern.{Pattern}
+use Rattle.patterns.specs.Patterns.{mostConditions}
 use Rattle.patterns.specs.Checked.{conditionAt}
 use Rattle.automaton.specs.Automaton.{stateOf, carries, carried}
 use Rattle.automaton.proofs.carried_conditions.Statement.{statement}
@@ -52,7 +53,7 @@ add-carried c =
     let at = c .before .before .before .before in
     let flag : c .before .is-carried .result ≡ f (at .loop .i) = c .before .is-carried .ensures ∙ ap (carries (stateOf (a .s)) (a .v)) (c .before .before .condition .ensures) in
     let sum = next f (at .loop .i) (at .loop .carried) (c .weight-if .result) (c .before .is-carried .result) (at .loop .inv .1) (c .weight-if .ensures) flag in
-    let few : at .loop .i + 1 ≤ 32 = omega (arith, start .pre .fewConditions, c .before .before .before .loop-test .taken) in
+    let few : at .loop .i + 1 ≤ mostConditions = omega (arith, start .pre .fewConditions, c .before .before .before .loop-test .taken) in
     omega (arith, sum, mask-bound f (at .loop .i + 1), pow-mono few)
 
 add-i : tie.Need-add-i Inv-loop μ-loop

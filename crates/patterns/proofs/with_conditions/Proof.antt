@@ -3,14 +3,14 @@ use borrow.Author.Needs.{needs}
 use mathlib.Core.Path.{_≡_, _∙_, ap}
 use Prim.Native.Nat.{ℕ, _-_, _≤_}
 use native.Mathlib.Omega.{arith}
-use Rattle.patterns.specs.Patterns.{conditionOf, conditionWord}
+use Rattle.patterns.specs.Patterns.{mostConditions, conditionOf, conditionWord}
 use Rattle.patterns.specs.Checked.{patternUpTo}
 use Rattle.patterns.proofs.Reading.{condition-read}
 use Rattle.patterns.proofs.with_conditions.Statement.{statement}
 use Rattle.patterns.proofs.with_conditions.Tie as tie
 
 abbrev Inv-loop : tie.InvT-loop
-Inv-loop pattern n c q₀ i₀ q i = (i ≤ c) × (c ≤ 32) × (q ≡ patternUpTo pattern n i)
+Inv-loop pattern n c q₀ i₀ q i = (i ≤ c) × (c ≤ mostConditions) × (q ≡ patternUpTo pattern n i)
 
 abbrev μ-loop : tie.MeasureT-loop
 μ-loop pattern n c q₀ i₀ q i = c - i

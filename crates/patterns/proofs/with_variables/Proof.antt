@@ -3,13 +3,14 @@ use borrow.Author.Needs.{needs}
 use mathlib.Core.Path.{_≡_, _∙_, ap}
 use Prim.Native.Nat.{ℕ, _-_, _≤_}
 use native.Mathlib.Omega.{arith}
+use Rattle.patterns.specs.Patterns.{mostVariables}
 use Rattle.patterns.specs.Checked.{patternUpTo}
 use Rattle.patterns.proofs.Reading.{variable-read, sets-room, groups-room}
 use Rattle.patterns.proofs.with_variables.Statement.{statement}
 use Rattle.patterns.proofs.with_variables.Tie as tie
 
 abbrev Inv-loop : tie.InvT-loop
-Inv-loop pattern n q₀ v₀ q v = (v ≤ n) × (n ≤ 12) × (q ≡ patternUpTo pattern v 0)
+Inv-loop pattern n q₀ v₀ q v = (v ≤ n) × (n ≤ mostVariables) × (q ≡ patternUpTo pattern v 0)
 
 abbrev μ-loop : tie.MeasureT-loop
 μ-loop pattern n q₀ v₀ q v = n - v

@@ -4,15 +4,16 @@ use mathlib.Core.List.{_++_}
 use Prim.Native.Nat.{_-_, _≤_}
 use native.Mathlib.Omega.{arith}
 use lib.ListN.{length, take, drop, length-set}
+use Rattle.slots.specs.Slots.{slotBytes}
 use Rattle.slots.proofs.Copies.{copy-turn, copy-end}
 use Rattle.slots.proofs.load.Statement.{statement}
 use Rattle.slots.proofs.load.Tie as tie
 
 abbrev Inv-loop : tie.InvT-loop
-Inv-loop part slot₀ i₀ slot i = (i ≤ 80) × (length slot ≡ 80) × (slot ≡ take i part ++ drop i slot₀)
+Inv-loop part slot₀ i₀ slot i = (i ≤ slotBytes) × (length slot ≡ slotBytes) × (slot ≡ take i part ++ drop i slot₀)
 
 abbrev μ-loop : tie.MeasureT-loop
-μ-loop part slot₀ i₀ slot i = 80 - i
+μ-loop part slot₀ i₀ slot i = slotBytes - i
 
 loop-holds : tie.Need-loop-holds Inv-loop μ-loop
 loop-holds c = (omega arith, refl, refl)
@@ -33,13 +34,13 @@ loop-again : tie.Need-loop-again Inv-loop μ-loop
 loop-again c =
     let l = c .before .before in
     let a = l .before .args in
-    (omega arith, simp length-set (l .loop .inv .1), copy-turn 80 (l .loop .i) (a .part .now) _ (l .loop .slot) (l .before .pre) refl (c .before .loop-test .taken) (l .loop .inv .2))
+    (omega arith, simp length-set (l .loop .inv .1), copy-turn slotBytes (l .loop .i) (a .part .now) _ (l .loop .slot) (l .before .pre) refl (c .before .loop-test .taken) (l .loop .inv .2))
 
 returns : tie.Need-returns Inv-loop μ-loop
 returns c =
     let l = c .before in
     let a = l .before .args in
-    copy-end 80 (l .loop .i) (a .part .now) _ (l .loop .slot) (l .before .pre) refl (c .loop-test .left) (l .loop .inv .2)
+    copy-end slotBytes (l .loop .i) (a .part .now) _ (l .loop .slot) (l .before .pre) refl (c .loop-test .left) (l .loop .inv .2)
 
 pub load-spec : {M : Type 1} → statement M
 load-spec =

@@ -6,6 +6,7 @@ use lib.ListN.{length, getD, length-set, length-replicate}
 use lib.Pow.{pow-mono}
 use Rattle.records.specs.Records.{recordCount}
 use Rattle.records.specs.Blocks.{mostRecords}
+use Rattle.patterns.specs.Patterns.{mostVariables}
 use Rattle.firing.specs.Firing.{canBy}
 use Rattle.starts.proofs.Masks.{cans-more}
 use borrow.Author.Needs.{needs}
@@ -34,7 +35,7 @@ can-fire-requires c κs =
 cast-cans : tie.Need-cast-cans Inv-loop μ-loop
 cast-cans c =
     let few = c .before .before .before .before .before .pre .variables in
-    omega (arith, c .can-fire .ensures .1, pow-mono {i = c .before .before .before .before .before .args .n} {j = 12} few)
+    omega (arith, c .can-fire .ensures .1, pow-mono {i = c .before .before .before .before .before .args .n} {j = mostVariables} few)
 
 mul-cans : tie.Need-mul-cans Inv-loop μ-loop
 mul-cans c =

@@ -7,6 +7,7 @@ use lib.Pow.{pow-mono}
 use Rattle.numbers.specs.Numbers.{oneIf}
 use Rattle.numbers.specs.Bits.{mask}
 use Rattle.numbers.proofs.Bits.{mask-none, mask-more, mask-bound}
+use Rattle.patterns.specs.Patterns.{mostVariables}
 use Rattle.firing.specs.Firing.{leavesBy}
 use Rattle.starts.specs.Skips.{leavingBy}
 use borrow.Author.Needs.{needs}
@@ -36,7 +37,7 @@ add-leave c =
     let test : ℕ → Bool = leavesBy (a .plan .now) (a .state) in
     let v = h .loop .v in
     let less = mask-bound test (v + 1) in
-    let most = pow-mono {i = v + 1} {j = 12} (omega (arith, st .pre .1, c .before .before .loop-test .taken)) in
+    let most = pow-mono {i = v + 1} {j = mostVariables} (omega (arith, st .pre .1, c .before .before .loop-test .taken)) in
     let more = mask-more test v in
     let now = h .loop .inv .1 in
     let weight = c .weight-if .ensures ∙ ap (λ (t : Bool). oneIf t * 2 ^ v) (c .before .leaves .ensures) in
