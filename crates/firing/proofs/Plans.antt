@@ -17,7 +17,7 @@ use Rattle.numbers.proofs.Bits.{mask-bound, mask-bit, mask-inside, mask-same, d
 use Rattle.patterns.specs.declared.Condition.{Condition}
 use Rattle.patterns.specs.declared.Pattern.{Pattern}
 use Rattle.patterns.specs.Patterns.{mostVariables, mostConditions, lastAttribute, lastOperator, conditionOf}
-use Rattle.patterns.specs.Comparison.{meets}
+use Rattle.patterns.specs.Comparison.{orders, meets}
 use Rattle.patterns.specs.Checked.{conditionAt, InOrder}
 use Rattle.patterns.proofs.Filled.{filled-at, filled-more, filled-length}
 use Rattle.firing.specs.Plan.{planRoom, firstMask, firstJoins, firstClass, othersPlace, typePlaces, maskPlace, failingOf, firstOrder, wordOf, noCondition, joins, isJoin, isOther, variableMask, joinMask, classHolds, classMask, otherMask, placeOf, planUpTo, planOf, conditionIn, beforeIn, afterIn, marksIn, joinsIn, classIn, othersIn, bothSides, Tells, Placed, IsPlan, Sound, Classed}
@@ -51,16 +51,16 @@ fields-back word k a b c d e f g = rw (a, b, c, d, e, f, g)
 
 pub failing-bound : (operator : ℕ) → failingOf operator < 8
 unfolding failingOf
-failing-bound operator = mask-bound (λ order. not (meets operator order)) 3
+failing-bound operator = mask-bound (λ order. not (meets operator order)) orders
 
-failing-digit : (operator o : ℕ) → o < 3 → failingOf operator / 2 ^ o % 2 ≡ oneIf (not (meets operator o))
+failing-digit : (operator o : ℕ) → o < orders → failingOf operator / 2 ^ o % 2 ≡ oneIf (not (meets operator o))
 unfolding failingOf
 failing-digit operator o l =
     let digit = failingOf operator / 2 ^ o % 2 in
-    sym (digit-one digit (omega arith)) ∙ ap oneIf (mask-inside (λ order. not (meets operator order)) 3 o l)
+    sym (digit-one digit (omega arith)) ∙ ap oneIf (mask-inside (λ order. not (meets operator order)) orders o l)
 
 -- three orders
-by-three : (P : ℕ → Type 0) → P 0 → P 1 → P 2 → (o : ℕ) → o < 3 → P o
+by-three : (P : ℕ → Type 0) → P 0 → P 1 → P 2 → (o : ℕ) → o < orders → P o
 by-three P zeroth first second o l =
     by-order o 1
     (λ h. let e : 0 ≡ o = omega arith in subst P e zeroth)
@@ -69,7 +69,7 @@ by-three P zeroth first second o l =
     (λ m. let e : 2 ≡ o = omega arith in subst P e second))
 
 module _ (high failing constant : ℕ) (f : failing < 8) (c : constant < 2 ^ 32) where
-  digit-among : (o : ℕ) → o < 3 → (high * 2 ^ 46 + failing * 2 ^ firstOrder + constant) / 2 ^ (firstOrder + o) % 2 ≡ failing / 2 ^ o % 2
+  digit-among : (o : ℕ) → o < orders → (high * 2 ^ 46 + failing * 2 ^ firstOrder + constant) / 2 ^ (firstOrder + o) % 2 ≡ failing / 2 ^ o % 2
   digit-among =
       by-three (λ o. (high * 2 ^ 46 + failing * 2 ^ firstOrder + constant) / 2 ^ (firstOrder + o) % 2 ≡ failing / 2 ^ o % 2)
       (omega arith)
