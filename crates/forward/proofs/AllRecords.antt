@@ -21,6 +21,7 @@ use Rattle.patterns.specs.declared.Pattern.{Pattern}
 use Rattle.rule.specs.Rule.{Block, Reading, Line, pack, endMark, lastOf, startOf}
 use Rattle.rule.specs.Growth.{Partial}
 use Rattle.rule.specs.Promises.{mostBindings, refusedWith, success}
+use Rattle.rule.specs.Calls.{mostLive}
 use Rattle.rule.specs.Computed.{isEvent, live, lines, closing, closed, report, isMet, peak, scan, forward, any}
 use Rattle.rule.proofs.LiveReadings.{event-yes, live-sound}
 use Rattle.rule.proofs.LiveOrder.{start-lt}
@@ -107,7 +108,7 @@ told-none lent =
     }
 
 pub going-start :
-    (p : Pattern) (bytes : List ℕ) (limit : ℕ) (lent work : List ℕ) → limit ≤ 256 → slotBytes * limit + slotBytes * limit ≤ length work
+    (p : Pattern) (bytes : List ℕ) (limit : ℕ) (lent work : List ℕ) → limit ≤ mostLive → slotBytes * limit + slotBytes * limit ≤ length work
     → Going p bytes limit lent 0 work lent 0 0 0 false 0 0 false 0
 unfolding live closed peak slotsAt forward
 going-start p bytes limit lent work few room =

@@ -1,5 +1,5 @@
--- Readings put one after the other into working memory: one by one, one part after another, and what stands elsewhere is
--- kept. Assumes nothing.
+-- Readings put one after the other into working memory: one by one, one part after another, and what stands elsewhere
+-- is kept. Assumes nothing.
 use mathlib.Core.Path.{_≡_, refl, sym, ap, _∙_}
 use mathlib.Core.Logic.{_⊎_, ⊎-elim, inl, inr}
 use mathlib.Core.Bool.{Bool, true, false}
@@ -171,7 +171,7 @@ added-over {w} {x} {dst} {limit} {t} {o} h short =
       size = refl;
     }
 
--- a 33rd binding: noted
+-- a binding too many: noted
 pub added-long :
     {w : List ℕ} {x : Held} {dst limit t : ℕ} {o : Bool} → isLong x ≡ true
     → Added w w dst limit t o (t + 1) true (x ∷ [])

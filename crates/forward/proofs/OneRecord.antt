@@ -1,5 +1,5 @@
--- One record, from the live readings that stand in working memory: what is reported, what goes on, and whether one of them
--- takes a 33rd binding. Assumes nothing.
+-- One record, from the live readings that stand in working memory: what is reported, what goes on, and whether one of
+-- them takes a binding too many. Assumes nothing.
 use mathlib.Core.Path.{_≡_, refl, sym, ap, ap₂, _∙_}
 use mathlib.Core.Logic.{_⊎_, inl, inr}
 use mathlib.Core.Bool.{Bool, true, false, not, _&&_, _||_, true≢false, and-false}
@@ -198,7 +198,7 @@ module _ (p : Pattern) (o : InOrder p) (plan : List ℕ) (is : IsPlan p plan) (b
       ∙ slots-none work (src + slotBytes * gone)
       ∙ ap (map holding) (sym (live-gap p B i (same-event e))))
 
--- ## A 33rd binding
+-- ## A binding too many
 
 module _ (p : Pattern) (B : Block) (i : ℕ) (small : (r : Reading) → List·Memᴰ r (live p B i) → length r ≤ mostBindings) where
   abbrev Grown : Reading → Type 0

@@ -1,4 +1,4 @@
--- Whether a reading put out has a 33rd binding: of lists, and of slots. Assumes nothing.
+-- Whether a reading put out has a binding too many: of lists, and of slots. Assumes nothing.
 use mathlib.Core.Path.{_≡_, refl, sym, ap, _∙_}
 use mathlib.Core.Bool.{Bool, true, false, _||_, or-true, or-false}
 use mathlib.Core.List.{List, [], _∷_, _++_}

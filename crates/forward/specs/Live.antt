@@ -1,5 +1,5 @@
--- What the live readings become at one record, on readings held beside their states. The plan, the block's bytes and the
--- mask of the variables whose own conditions hold stand for the pattern and the block.
+-- What the live readings become at one record, on readings held beside their states. The plan, the block's bytes and
+-- the mask of the variables whose own conditions hold stand for the pattern and the block.
 use mathlib.Core.Bool.{Bool, true, false, _&&_}
 use mathlib.Core.List.{List, [], _++_, map}
 use Prim.Native.Nat.{ℕ, _+_}
@@ -48,7 +48,7 @@ unfoldable pub begunBy : List ℕ → ℕ → ℕ → List Held
 begunBy plan i can =
     map (λ v. grow i v unbound) (filter (λ v. bit can v && leavesBy plan 0 v) (upto 0 mostVariables))
 
--- a 33rd binding
+-- a binding too many
 unfoldable pub isLong : Held → Bool
 isLong h = ltb mostBindings (length (h .bindings))
 

@@ -7,12 +7,18 @@ use Prim.Native.Nat.{ℕ, _+_, _*_, _≤_, _<_}
 use lib.ListN.{length, take, drop}
 use Rattle.numbers.specs.Numbers.{first}
 use Rattle.records.specs.Records.{recordBytes}
+use Rattle.patterns.specs.Patterns.{mostVariables}
 use Rattle.rule.specs.Rule.{startOf}
+use Rattle.rule.specs.Calls.{mostLive}
 use Rattle.slots.specs.Slots.{Held, slotBytes, countIn, heldIn, slotAt, slotsAt}
 use Rattle.firing.specs.Firing.{Fit}
 use Rattle.forward.specs.Live.{long, isLate, isEventBy}
 
--- the readings put out so far: counted, a 33rd binding noted, and, while they fit, standing from dst on
+-- a record leaves fewer readings: one for each variable at most from each live one, and as many that begin
+abbrev pub stepBound : ℕ
+stepBound = mostVariables * mostLive + mostVariables + 1
+
+-- the readings put out so far: counted, a binding too many noted, and, while they fit, standing from dst on
 pub record Standing (work : List ℕ) (dst limit total : ℕ) (over : Bool) (out : List Held) : Type 0 where
   pub count : total ≡ length out
   pub noted : over ≡ long out
@@ -58,7 +64,7 @@ goneBy bytes i duration work src count =
 -- the readings stand in one half of working memory
 pub record Stands (lent limit half start count : ℕ) : Type 0 where
   pub room : slotBytes * limit + slotBytes * limit ≤ lent
-  pub few : limit ≤ 256
+  pub few : limit ≤ mostLive
   pub side : (half ≡ 0) ⊎ (half ≡ slotBytes * limit)
   pub from : half ≤ start
   pub to : start + slotBytes * count ≤ half + slotBytes * limit

@@ -6,40 +6,31 @@ ghost use Prim.Native.Nat.{_+_, _-_, _*_, _^_, _≤_, _<_, max};
 ghost use lib.ListN.{length, replicate};
 ghost use Rattle.numbers.specs.Numbers.{first};
 ghost use Rattle.records.specs.Records.{recordBytes};
+ghost use Rattle.records.specs.Blocks.{mostRecords};
 ghost use Rattle.patterns.specs.Patterns.{mostVariables, mostConditions};
 ghost use Rattle.rule.specs.Rule.{startOf};
 ghost use Rattle.rule.specs.Computed.{line};
-ghost use Rattle.rule.specs.Calls.{ForwardCall};
+ghost use Rattle.rule.specs.Promises.{mostBindings};
+ghost use Rattle.rule.specs.Calls.{mostLive, ForwardCall};
 ghost use Rattle.slots.specs.Slots.{slotBytes, slotAt, slotsAt, heldIn, countIn, grow};
 ghost use Rattle.firing.specs.Plan.{Sound, Classed};
 ghost use Rattle.firing.specs.Firing.{Fit};
 ghost use Rattle.forward.specs.Flags.{isSet};
 ghost use Rattle.forward.specs.Live.{oneBy, firedBy, extendBy, firstBy, begunBy, stepBy, isLong, long, isEventBy, markBy, canAt, linesBy, isLate};
-ghost use Rattle.forward.specs.Memory.{Apart, Added, Ready, Begun, firstInTime, goneBy, Stands, Moved};
+ghost use Rattle.forward.specs.Memory.{stepBound, Apart, Added, Ready, Begun, firstInTime, goneBy, Stands, Moved};
 ghost use Rattle.forward.specs.Lines.{Wrote};
 ghost use Rattle.forward.specs.Passes.{Prepared, Ran, Finished, limitBroken};
 use patterns::Pattern;
 use records::Answer;
+use records::RECORD_BYTES;
+use slots::SLOT_BYTES;
 
-const SLOT_BYTES: usize = 80;
+pub const MOST_LIVE: u32 = 256;
 
-const MOST_BINDINGS: usize = 32;
+// Working memory has two halves, each with a slot for each reading of the limit.
+pub const WORK_PER_READING: usize = 2 * SLOT_BYTES;
 
-const RECORD_BYTES: usize = 16;
-
-const MOST_LIVE: u32 = 256;
-
-const WORK_PER_READING: usize = 160;
-
-const EVENT: u8 = 0;
-
-const PAST_MARK: u8 = 1;
-
-const END_MARK: u8 = 2;
-
-const GAP_MARK: u8 = 3;
-
-// How many readings were put out, and whether one of them has a 33rd binding.
+// How many readings were put out, and whether one of them has a binding too many.
 pub struct Out {
     pub total: usize,
     pub over: usize,
@@ -89,7 +80,7 @@ fn is_event(block: &[u8], i: usize) -> bool
     requires { ⌜ recordBytes * i + recordBytes ≤ length (now block) ⌝ }
     ensures { λ r. ⌜ r ≡ isEventBy (now (block .entry)) i ⌝ }
 {
-    records::unpack(block, i).kind == EVENT
+    records::unpack(block, i).kind == records::EVENT
 }
 
 // How many of the readings close at record i: at a gap all, otherwise the late ones.
@@ -109,14 +100,14 @@ fn mark_at(block: &[u8], i: usize) -> u8
     ensures { λ r. ⌜ (r ≡ markBy (now (block .entry)) i) × (r < 16) ⌝ }
 {
     if is_event(block, i) {
-        return PAST_MARK;
+        return slots::PAST_MARK;
     }
-    GAP_MARK
+    slots::GAP_MARK
 }
 
 // Reports one reading, or notes that the room is short.
 fn tell_one(result: &mut [u8], mark: u8, slot: &[u8], tell: Tell) -> Tell
-    requires { ⌜ (length (now slot) ≡ slotBytes) × (countIn (now slot) ≤ 32) × (mark < 16) × (tell .used ≤ length (now result)) × (tell .readings ≤ tell .used) ⌝ }
+    requires { ⌜ (length (now slot) ≡ slotBytes) × (countIn (now slot) ≤ mostBindings) × (mark < 16) × (tell .used ≤ length (now result)) × (tell .readings ≤ tell .used) ⌝ }
     ensures { λ r. ⌜ Wrote (now (result .entry)) (now (result .exit)) (tell .used) (tell .readings) (isSet (tell .short)) (r .used) (r .readings) (isSet (r .short)) (line mark (heldIn (now (slot .entry)) .bindings) ∷ []) ⌝ }
 {
     if tell.short != 0 {
@@ -141,7 +132,7 @@ fn tell_one(result: &mut [u8], mark: u8, slot: &[u8], tell: Tell) -> Tell
 
 // Reports a reading that closes, if it is full.
 fn close_one(result: &mut [u8], full: u64, mark: u8, slot: &[u8], tell: Tell) -> Tell
-    requires { ⌜ (length (now slot) ≡ slotBytes) × (countIn (now slot) ≤ 32) × (mark < 16) × (tell .used ≤ length (now result)) × (tell .readings ≤ tell .used) ⌝ }
+    requires { ⌜ (length (now slot) ≡ slotBytes) × (countIn (now slot) ≤ mostBindings) × (mark < 16) × (tell .used ≤ length (now result)) × (tell .readings ≤ tell .used) ⌝ }
     ensures { λ r. ⌜ Wrote (now (result .entry)) (now (result .exit)) (tell .used) (tell .readings) (isSet (tell .short)) (r .used) (r .readings) (isSet (r .short)) (linesBy full mark (heldIn (now (slot .entry)) ∷ [])) ⌝ }
 {
     if numbers::is_within(full, slots::state_of(slot)) {
@@ -176,9 +167,9 @@ fn close_all(
 
 // ## Going on
 
-// Puts out one reading that has at most 32 bindings.
-fn emit(work: &mut [u8], slot: &[u8; 80], dst: usize, limit: usize, out: Out) -> Out
-    requires { ⌜ (dst + slotBytes * limit ≤ length (now work)) × (length (now slot) ≡ slotBytes) × (isLong (heldIn (now slot)) ≡ false) × (out .total < 65536) ⌝ }
+// Puts out one reading that has no binding too many.
+fn emit(work: &mut [u8], slot: &[u8; SLOT_BYTES], dst: usize, limit: usize, out: Out) -> Out
+    requires { ⌜ (dst + slotBytes * limit ≤ length (now work)) × (length (now slot) ≡ slotBytes) × (isLong (heldIn (now slot)) ≡ false) × (out .total < stepBound) ⌝ }
     ensures { λ r. ⌜ Added (now (work .entry)) (now (work .exit)) dst limit (out .total) (isSet (out .over)) (r .total) (isSet (r .over)) (heldIn (now (slot .entry)) ∷ []) ⌝ }
 {
     let total = out.total;
@@ -197,17 +188,17 @@ fn emit(work: &mut [u8], slot: &[u8; 80], dst: usize, limit: usize, out: Out) ->
     }
 }
 
-// Puts out the slot's reading, which has fewer than 32 bindings, with variable v bound to record i.
+// Puts out the slot's reading, which has room for a binding, with variable v bound to record i.
 fn emit_bound(
     work: &mut [u8],
-    slot: &[u8; 80],
+    slot: &[u8; SLOT_BYTES],
     i: usize,
     v: usize,
     dst: usize,
     limit: usize,
     out: Out,
 ) -> Out
-    requires { ⌜ (dst + slotBytes * limit ≤ length (now work)) × (length (now slot) ≡ slotBytes) × (countIn (now slot) < 32) × (out .total < 65536) × (v < 12) × (i < 4096) ⌝ }
+    requires { ⌜ (dst + slotBytes * limit ≤ length (now work)) × (length (now slot) ≡ slotBytes) × (countIn (now slot) < mostBindings) × (out .total < stepBound) × (v < mostVariables) × (i < mostRecords) ⌝ }
     ensures { λ r. ⌜ Added (now (work .entry)) (now (work .exit)) dst limit (out .total) (isSet (out .over)) (r .total) (isSet (r .over)) (grow i v (heldIn (now (slot .entry))) ∷ []) ⌝ }
 {
     let total = out.total;
@@ -227,7 +218,7 @@ fn emit_bound(
     }
 }
 
-// Puts out the reading at `from` with variable v bound to record i, or notes a 33rd binding.
+// Puts out the reading at `from` with variable v bound to record i, or notes a binding too many.
 fn emit_grown(
     work: &mut [u8],
     from: usize,
@@ -237,11 +228,11 @@ fn emit_grown(
     limit: usize,
     out: Out,
 ) -> Out
-    requires { ⌜ (dst + slotBytes * limit ≤ length (now work)) × (from + slotBytes ≤ length (now work)) × (out .total < 65536) × (v < 12) × (i < 4096) ⌝ }
+    requires { ⌜ (dst + slotBytes * limit ≤ length (now work)) × (from + slotBytes ≤ length (now work)) × (out .total < stepBound) × (v < mostVariables) × (i < mostRecords) ⌝ }
     ensures { λ r. ⌜ Added (now (work .entry)) (now (work .exit)) dst limit (out .total) (isSet (out .over)) (r .total) (isSet (r .over)) (grow i v (heldIn (slotAt (now (work .entry)) from)) ∷ []) ⌝ }
 {
     let end = from + SLOT_BYTES;
-    if slots::count_of(&work[from..end]) < MOST_BINDINGS {
+    if slots::count_of(&work[from..end]) < slots::MOST_BINDINGS {
         let slot = slots::load(&work[from..end]);
         return emit_bound(work, &slot, i, v, dst, limit, out);
     }
@@ -263,7 +254,7 @@ fn try_one(
     limit: usize,
     out: Out,
 ) -> Out
-    requires { ⌜ (dst + slotBytes * limit ≤ length (now work)) × (from + slotBytes ≤ length (now work)) × (out .total < 65536) × (v < mostVariables) × (i < 4096) × Fit (now plan) (now block) i (slotAt (now work) from) ⌝ }
+    requires { ⌜ (dst + slotBytes * limit ≤ length (now work)) × (from + slotBytes ≤ length (now work)) × (out .total < stepBound) × (v < mostVariables) × (i < mostRecords) × Fit (now plan) (now block) i (slotAt (now work) from) ⌝ }
     ensures { λ r. ⌜ Added (now (work .entry)) (now (work .exit)) dst limit (out .total) (isSet (out .over)) (r .total) (isSet (r .over)) (oneBy (now (plan .entry)) (now (block .entry)) i v (heldIn (slotAt (now (work .entry)) from))) ⌝ }
 {
     let end = from + SLOT_BYTES;
@@ -288,7 +279,7 @@ fn spread(
     limit: usize,
     out: Out,
 ) -> Out
-    requires { ⌜ (dst + slotBytes * limit ≤ length (now work)) × (from + slotBytes ≤ length (now work)) × Apart from (from + slotBytes) dst limit × (out .total + 12 < 65536) × (can < 2 ^ mostVariables) × (i < 4096) × Fit (now plan) (now block) i (slotAt (now work) from) ⌝ }
+    requires { ⌜ (dst + slotBytes * limit ≤ length (now work)) × (from + slotBytes ≤ length (now work)) × Apart from (from + slotBytes) dst limit × (out .total + mostVariables < stepBound) × (can < 2 ^ mostVariables) × (i < mostRecords) × Fit (now plan) (now block) i (slotAt (now work) from) ⌝ }
     ensures { λ r. ⌜ Added (now (work .entry)) (now (work .exit)) dst limit (out .total) (isSet (out .over)) (r .total) (isSet (r .over)) (firedBy (now (plan .entry)) (now (block .entry)) i can (heldIn (slotAt (now (work .entry)) from))) ⌝ }
 {
     let mut more = out;
@@ -313,7 +304,7 @@ fn extend_one(
     limit: usize,
     out: Out,
 ) -> Out
-    requires { ⌜ (dst + slotBytes * limit ≤ length (now work)) × (from + slotBytes ≤ length (now work)) × Apart from (from + slotBytes) dst limit × (out .total + 12 < 65536) × (can < 2 ^ mostVariables) × (i < 4096) × Fit (now plan) (now block) i (slotAt (now work) from) ⌝ }
+    requires { ⌜ (dst + slotBytes * limit ≤ length (now work)) × (from + slotBytes ≤ length (now work)) × Apart from (from + slotBytes) dst limit × (out .total + mostVariables < stepBound) × (can < 2 ^ mostVariables) × (i < mostRecords) × Fit (now plan) (now block) i (slotAt (now work) from) ⌝ }
     ensures { λ r. ⌜ Added (now (work .entry)) (now (work .exit)) dst limit (out .total) (isSet (out .over)) (r .total) (isSet (r .over)) (extendBy (now (plan .entry)) (now (block .entry)) i can (heldIn (slotAt (now (work .entry)) from))) ⌝ }
 {
     let total = out.total;
@@ -338,7 +329,7 @@ fn begin_one(
     limit: usize,
     out: Out,
 ) -> Out
-    requires { ⌜ (dst + slotBytes * limit ≤ length (now work)) × (out .total < 65536) × (v < mostVariables) × (i < 4096) × Sound (now plan) ⌝ }
+    requires { ⌜ (dst + slotBytes * limit ≤ length (now work)) × (out .total < stepBound) × (v < mostVariables) × (i < mostRecords) × Sound (now plan) ⌝ }
     ensures { λ r. ⌜ Added (now (work .entry)) (now (work .exit)) dst limit (out .total) (isSet (out .over)) (r .total) (isSet (r .over)) (firstBy (now (plan .entry)) i v) ⌝ }
 {
     if firing::leaves(plan, 0, v) {
@@ -358,7 +349,7 @@ fn begin(
     limit: usize,
     out: Out,
 ) -> Out
-    requires { ⌜ (dst + slotBytes * limit ≤ length (now work)) × (out .total + 12 < 65536) × (can < 2 ^ mostVariables) × (i < 4096) × Sound (now plan) ⌝ }
+    requires { ⌜ (dst + slotBytes * limit ≤ length (now work)) × (out .total + mostVariables < stepBound) × (can < 2 ^ mostVariables) × (i < mostRecords) × Sound (now plan) ⌝ }
     ensures { λ r. ⌜ Added (now (work .entry)) (now (work .exit)) dst limit (out .total) (isSet (out .over)) (r .total) (isSet (r .over)) (begunBy (now (plan .entry)) i can) ⌝ }
 {
     let mut more = out;
@@ -384,7 +375,7 @@ fn advance(
     limit: usize,
 ) -> Out
     requires { ⌜ (dst + slotBytes * limit ≤ length (now work)) × (src + slotBytes * count ≤ length (now work)) × Apart src (src + slotBytes * count) dst limit ⌝ }
-    requires { ⌜ (count ≤ 256) × (can < 2 ^ mostVariables) × (i < 4096) × Sound (now plan) × Ready (now work) (now plan) (now block) i src count ⌝ }
+    requires { ⌜ (count ≤ mostLive) × (can < 2 ^ mostVariables) × (i < mostRecords) × Sound (now plan) × Ready (now work) (now plan) (now block) i src count ⌝ }
     ensures { λ r. ⌜ Added (now (work .entry)) (now (work .exit)) dst limit 0 false (r .total) (isSet (r .over)) (stepBy (now (plan .entry)) (now (block .entry)) i can (slotsAt (now (work .entry)) src count)) ⌝ }
 {
     let mut out = Out { total: 0, over: 0 };
@@ -398,7 +389,7 @@ fn advance(
 }
 
 // Where the live readings stand: the half of working memory, the place of the first, how many; and whether one of them has
-// a 33rd binding.
+// a binding too many.
 pub struct Stand {
     pub half: usize,
     pub start: usize,
@@ -417,7 +408,7 @@ fn move_on(
     limit: usize,
 ) -> Stand
     requires { ⌜ Stands (length (now work)) limit (stand .half) (stand .start) (stand .count) × (long (slotsAt (now work) (stand .start) (stand .count)) ≡ false) × (isSet (stand .over) ≡ false) ⌝ }
-    requires { ⌜ (can < 2 ^ mostVariables) × (i < 4096) × Sound (now plan) × Ready (now work) (now plan) (now block) i (stand .start) (stand .count) ⌝ }
+    requires { ⌜ (can < 2 ^ mostVariables) × (i < mostRecords) × Sound (now plan) × Ready (now work) (now plan) (now block) i (stand .start) (stand .count) ⌝ }
     ensures { λ r. ⌜ Moved (now (work .entry)) (now (work .exit)) limit (r .half) (r .start) (r .count) (isSet (r .over)) (stepBy (now (plan .entry)) (now (block .entry)) i can (slotsAt (now (work .entry)) (stand .start) (stand .count))) ⌝ }
 {
     if can == 0 {
@@ -487,7 +478,7 @@ fn pass(
     work: &mut [u8],
     result: &mut [u8],
 ) -> Answer
-    requires { ⌜ Prepared p (now plan) (now block) × (limit ≤ 256) × (slotBytes * limit + slotBytes * limit ≤ length (now work)) ⌝ }
+    requires { ⌜ Prepared p (now plan) (now block) × (limit ≤ mostLive) × (slotBytes * limit + slotBytes * limit ≤ length (now work)) ⌝ }
     ensures { λ r. ⌜ Ran p (now (block .entry)) limit (now (result .entry)) (now (result .exit)) r ⌝ }
 {
     let full = numbers::weight(p.n) - 1;
@@ -530,7 +521,15 @@ fn pass(
         peak = most(peak, stand.count);
         i += 1;
     }
-    tell = close_all(result, work, stand.start, stand.count, full, END_MARK, tell);
+    tell = close_all(
+        result,
+        work,
+        stand.start,
+        stand.count,
+        full,
+        slots::END_MARK,
+        tell,
+    );
     if tell.short != 0 {
         return records::refusal(11, 0);
     }
@@ -543,7 +542,7 @@ fn pass(
     }
 }
 
-// Row 8 of the refusals.
+// Refusal 8, of the limit and of working memory (Rule 8.8).
 fn is_limit_broken(limit: u32, lent: usize) -> bool
     ensures { λ r. ⌜ r ≡ limitBroken limit lent ⌝ }
 {
@@ -570,7 +569,7 @@ fn finish(answer: Answer, work: &mut [u8], result: &mut [u8]) -> Answer
     answer
 }
 
-// The forward pass: checks the pattern, the block and the limit, then reads the records once.
+// The forward pass (Rule 7.5): checks the pattern, the block and the limit, then reads the records once.
 pub fn forward(
     pattern: &[u8],
     block: &[u8],

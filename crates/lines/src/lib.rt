@@ -13,6 +13,11 @@ const LOW_NUMBERS: u16 = 4096;
 // The count of a line's bindings is the head's last 6 bits.
 const COUNT_NUMBERS: u16 = 64;
 
+// The most text of a number of a result, and of the last line.
+pub const NUMBER_ROOM: usize = 8;
+
+pub const LAST_ROOM: usize = 70;
+
 // The digits of a variable or a mark, of a record, and of any number.
 const HIGH_DIGITS: usize = 2;
 
@@ -123,7 +128,7 @@ fn put_word(text: &mut [u8], at: usize, word: &[u8]) -> usize
     at + i
 }
 
-// The last line of a report: ok, readings, used, peak.
+// The last line of a report.
 fn put_ok(text: &mut [u8], at: usize, answer: Answer) -> usize
     requires { ⌜ at + lastRoom ≤ length (now text) ⌝ }
     ensures { λ r. ⌜ Put (now (text .entry)) (now (text .exit)) at (okText answer) r × (r ≤ at + lastRoom) ⌝ }
@@ -136,7 +141,7 @@ fn put_ok(text: &mut [u8], at: usize, answer: Answer) -> usize
     peak + 1
 }
 
-// The one line of a refusal: refused, number, place.
+// The one line of a refusal.
 fn put_refused(text: &mut [u8], answer: Answer) -> usize
     requires { ⌜ lastRoom ≤ length (now text) ⌝ }
     ensures { λ r. ⌜ Put (now (text .entry)) (now (text .exit)) 0 (refusedText answer) r × (r ≤ lastRoom) ⌝ }

@@ -8,7 +8,7 @@ use Rattle.records.specs.declared.Answer.{Answer}
 use Rattle.records.specs.Records.{recordBytes}
 use Rattle.records.specs.Blocks.{mostRecords, refused}
 use Rattle.rule.specs.Rule.{Line, Report}
-use Rattle.rule.specs.Calls.{patternIn, blockIn, workPerReading, mostLive, ForwardCall}
+use Rattle.rule.specs.Calls.{patternIn, blockIn, workPerReading, mostLive, mostResultBytes, ForwardCall}
 use Rattle.lines.specs.Text.{answerText}
 
 -- Rule 9.1
@@ -33,7 +33,7 @@ workBytes = workPerReading * mostLive
 
 -- Rule 9.1
 abbrev pub resultBytes : ℕ
-resultBytes = 2 * 32768
+resultBytes = mostResultBytes
 
 -- Rule 9.1: the answer, and the result after it
 pub data Answered (input : List ℕ) (answer : Answer) (result : List ℕ) : Type 0 where
@@ -55,6 +55,10 @@ pub record Program (input text : List ℕ) : Type 0 where
       → Report (patternIn (patternBytes input)) (blockIn (blockBytes input)) (length (blockIn (blockBytes input))) lines
   pub written : text ≡ answerText answer lines
 
+-- the longest pattern that two bytes can announce
+abbrev pub mostAnnounced : ℕ
+mostAnnounced = 65535
+
 -- The program reads so many bytes at most: the length, the longest pattern, and one byte more than a block may have.
 abbrev pub inputRoom : ℕ
-inputRoom = lengthBytes + 65535 + (recordBytes * mostRecords + 1)
+inputRoom = lengthBytes + mostAnnounced + (recordBytes * mostRecords + 1)

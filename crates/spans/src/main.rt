@@ -1,6 +1,5 @@
-// The match program. Standard input: pattern length (two bytes, high first), pattern, block to the end. It runs the
-// forward pass with L 256 and writes a line for each reading, mark and then variable@record; last ok, readings, used,
-// peak; or refused, number, place, alone.
+// The match program: the forward pass over a pattern and a block from standard input (Rule 9.1), and its report as lines
+// of text (Rule 9.2).
 ghost use mathlib.Core.Path.{_≡_};
 ghost use Prim.Native.Nat.{_≤_};
 ghost use lib.ListN.{length, take};
@@ -12,38 +11,56 @@ use records::Answer;
 
 const LENGTH_BYTES: usize = 2;
 
-const LIMIT: u32 = 256;
+// The longest pattern that two bytes can announce.
+const MOST_ANNOUNCED: usize = 65535;
+
+// The length, the longest pattern, and one byte more than a block may have: input that does not fit has too long a block
+// even so.
+const INPUT_ROOM: usize = LENGTH_BYTES
+    + MOST_ANNOUNCED
+    + records::RECORD_BYTES * records::MOST_RECORDS
+    + 1;
+
+const LIMIT: u32 = forward::MOST_LIVE;
+
+const WORK_ROOM: usize = forward::WORK_PER_READING * LIMIT as usize;
+
+const RESULT_ROOM: usize = slots::MOST_RESULT_BYTES;
+
+const TEXT_ROOM: usize = lines::NUMBER_ROOM * (RESULT_ROOM / 2) + lines::LAST_ROOM;
 
 fn main() {
     let mut input = input_room();
     let n = io::read_full(STDIN_FILENO, &mut input);
     let mut work = work_room();
-    let mut result = io::large_buffer();
+    let mut result = result_room();
     let mut text = text_room();
     let end = put_text(&input[..n], &mut work, &mut result, &mut text);
     io::write_all(STDOUT_FILENO, &text[0..end]);
 }
 
-// The length, the longest pattern, and one byte more than a block may have: input that does not fit has too long a block
-// even so.
-fn input_room() -> [u8; 131074]
+fn input_room() -> [u8; INPUT_ROOM]
     ensures { λ r. ⌜ inputRoom ≡ length r ⌝ }
 {
-    [0; 131074]
+    [0; INPUT_ROOM]
 }
 
-// 160 bytes for each reading of L.
-fn work_room() -> [u8; 40960]
+fn work_room() -> [u8; WORK_ROOM]
     ensures { λ r. ⌜ workBytes ≡ length r ⌝ }
 {
-    [0; 40960]
+    [0; WORK_ROOM]
 }
 
-// Eight bytes for each number of the result, and the last line.
-fn text_room() -> [u8; 262214]
+fn result_room() -> [u8; RESULT_ROOM]
+    ensures { λ r. ⌜ resultBytes ≡ length r ⌝ }
+{
+    [0; RESULT_ROOM]
+}
+
+fn text_room() -> [u8; TEXT_ROOM]
     ensures { λ r. ⌜ textRoom resultBytes ≡ length r ⌝ }
 {
-    [0; 262214]
+    [0; TEXT_ROOM]
 }
 
 // Puts all that is written of an input at the start of text, and answers how many bytes that is.

@@ -1,8 +1,10 @@
--- `forward::advance` meets its contract: what the live readings become, slot by slot, then those that begin. Assumes nothing.
+-- `forward::advance` meets its contract: what the live readings become, slot by slot, then those that begin. Assumes
+-- nothing.
 use mathlib.Core.Path.{_≡_, _∙_}
 use mathlib.Core.Bool.{false}
 use Prim.Native.Nat.{ℕ, _+_, _-_, _*_, _≤_}
 use native.Mathlib.Omega.{arith}
+use Rattle.patterns.specs.Patterns.{mostVariables}
 use Rattle.automaton.specs.Filtering.{collect}
 use Rattle.slots.specs.Slots.{slotBytes, heldIn, slotAt, slotsAt}
 use Rattle.forward.specs.Flags.{isSet}
@@ -18,7 +20,7 @@ use Rattle.forward.proofs.advance.Tie as tie
 abbrev Inv-loop : tie.InvT-loop
 Inv-loop work₀ plan block i can src count dst limit out₀ k₀ work out k =
     (k ≤ count)
-    × (out .total ≤ 12 * k)
+    × (out .total ≤ mostVariables * k)
     × Added work₀ work dst limit 0 false (out .total) (isSet (out .over)) (collect (extendBy plan block i can) (slotsAt work₀ src k))
 
 abbrev μ-loop : tie.MeasureT-loop

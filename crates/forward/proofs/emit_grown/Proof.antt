@@ -1,4 +1,4 @@
--- `forward::emit_grown` meets its contract: the grown reading, or a 33rd binding noted. Assumes nothing.
+-- `forward::emit_grown` meets its contract: the grown reading, or a binding too many noted. Assumes nothing.
 use mathlib.Core.Path.{ap, _∙_}
 use native.Mathlib.Omega.{arith}
 use lib.ListN.{length}
