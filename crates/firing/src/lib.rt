@@ -17,7 +17,8 @@ ghost use Rattle.firing.specs.Plan.{planRoom, joins, standing, variableM
 ghost use Rattle.firing.specs.Plan.{bothSides, otherOwn, sampleOf, typePlaces, classMask, otherMask};
 ghost use Rattle.firing.specs.Plan.{Tells, IsWord, Placed, IsPlan, Sound, Classed};
 ghost use Rattle.firing.specs.Firing.{settled, settledOnClass, settledOrder, valuesOf, settledBy, Settling};
-ghost use Rattle.firing.specs.Firing.{canBy, leavesBy, laterBy, otherOf, sideOf, pairMeets, joinsBy, agreesBy, Fit};
+ghost use Rattle.firing.specs.Firing.{canBy, leavesBy, laterBy, otherOf, sideOf, pairMeets, joinsBy, agreesBy};
+ghost use Rattle.firing.specs.Firing.{Fit};
 use patterns::Condition;
 use patterns::Pattern;
 use records::Record;
@@ -348,7 +349,8 @@ pub fn plan_of(p: Pattern) -> [u64; PLAN_ROOM]
 
 // ## Once a record
 
-// 1 where x does not stand to y as the operator of a condition's 64 bits says, else 0.
+// 1 where x does not stand to y as the operator of a condition's 64 bits says, else 0. The bit looked up is an entry of
+// the table of operators (Rule 3.2), which `failing` took out of it once a call.
 fn fails(word: u64, x: u64, y: u64) -> u64
     requires { ⌜ Tells word ⌝ }
     ensures { λ r. ⌜ r ≡ oneIf (not (meets (conditionOf word .operator) (orderOf (pos x) (pos y)))) ⌝ }
@@ -438,7 +440,8 @@ fn settle_both(plan: &[u64; PLAN_ROOM], n: usize, c: usize, can: u64, block: &[u
 }
 
 // The variables whose own conditions hold of record i, by the plan of a pattern of n variables and c conditions. The
-// plan has settled those on class; the others are settled here, kind by kind.
+// plan has settled those on class, with the class that `records::class` gives for the types of a place (Rule 1.4); the
+// others are settled here, kind by kind.
 pub fn can_fire(plan: &[u64; PLAN_ROOM], n: usize, c: usize, block: &[u8], i: usize) -> u64
     requires { ⌜ Sound (now plan) × Classed (now plan) n c × (n ≤ mostVariables) × (c ≤ mostConditions)
         × (recordBytes * i + recordBytes ≤ length (now block)) ⌝ }

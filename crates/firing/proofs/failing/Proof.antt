@@ -1,4 +1,5 @@
--- `firing::failing` meets its contract. The loop's invariant: the bits are the mask of the orders passed. Assumes nothing.
+-- `firing::failing` meets its contract. The loop's invariant: the bits are the mask of the orders passed.
+-- Assumes nothing.
 use mathlib.Core.Path.{_≡_, _∙_, sym, ap}
 use mathlib.Core.Bool.{Bool, not}
 use Prim.Native.Nat.{ℕ, _-_, _≤_}

@@ -1,5 +1,5 @@
--- `firing::other_mask` meets its contract. The loop's invariant: the bits are the mask of the conditions passed. Assumes
--- nothing.
+-- `firing::other_mask` meets its contract. The loop's invariant: the bits are the mask of the conditions passed.
+-- Assumes nothing.
 use mathlib.Core.Path.{_≡_, _∙_, sym, ap}
 use mathlib.Core.Bool.{Bool}
 use Prim.Native.Nat.{ℕ, _-_, _≤_}

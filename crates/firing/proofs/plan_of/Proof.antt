@@ -1,5 +1,5 @@
--- `firing::plan_of` meets its contract. The loop's invariant: the places passed are filled, and give the conditions back.
--- Assumes nothing.
+-- `firing::plan_of` meets its contract. The loop's invariant: the places passed are filled, and give the conditions
+-- back. Assumes nothing.
 use mathlib.Core.Path.{_≡_, _∙_, refl, ap, subst}
 use Prim.Native.Nat.{_-_, _≤_}
 use native.Mathlib.Omega.{arith}

@@ -9,7 +9,8 @@ use lib.Pow.{pow-pos}
 use Rattle.firing.specs.Plan.{conditionIn, othersIn, bothSides}
 use Rattle.firing.specs.Firing.{valuesOf}
 use Rattle.firing.proofs.Joins.{weight-le}
-use Rattle.firing.proofs.Settling.{OfKind, bit-below, leftBy, others-bound, others-kind, left-first, left-all, left-turn, sides-settled, value-at}
+use Rattle.firing.proofs.Settling.{OfKind, bit-below, leftBy, others-bound, others-kind, left-first, left-all}
+use Rattle.firing.proofs.Settling.{left-turn, sides-settled, value-at}
 use Rattle.records.specs.Records.{recordAt}
 use Rattle.patterns.specs.declared.Condition.{Condition}
 use Rattle.patterns.specs.Patterns.{mostConditions}
