@@ -1,5 +1,5 @@
--- The variables whose own conditions hold of an event: those whose conditions on class hold of the event's class, settled by
--- the other conditions kind by kind. Assumes nothing.
+-- The variables whose own conditions hold of an event: those whose conditions on class hold of the event's class,
+-- settled by the other conditions kind by kind. Assumes nothing.
 use mathlib.Core.Path.{_≡_, _∙_, refl, sym, ap, ap₂}
 use mathlib.Core.Bool.{Bool, true, false, not, _&&_, _||_}
 use mathlib.Core.List.{List}
@@ -19,7 +19,9 @@ use Rattle.patterns.specs.declared.Condition.{Condition}
 use Rattle.patterns.specs.Patterns.{mostConditions, lastAttribute}
 use Rattle.patterns.specs.Comparison.{value, orderOf, meets, constantValue, comparedWith, holds}
 use Rattle.automaton.specs.Filtering.{implies}
-use Rattle.firing.specs.Plan.{isOwn, onClass, isOnClass, otherOwn, isOther, classAttribute, bothSides, typesTogether, typePlaces, sampleOf, classHolds, classMask, conditionIn, classIn, Sound, Classed}
+use Rattle.firing.specs.Plan.{isOwn, onClass, isOnClass, otherOwn, isOther, classAttribute, bothSides}
+use Rattle.firing.specs.Plan.{typesTogether, typePlaces, sampleOf, classHolds, classMask, conditionIn, classIn}
+use Rattle.firing.specs.Plan.{Sound, Classed}
 use Rattle.firing.specs.Firing.{ownHolds, otherHolds, settledBy, canBy}
 use Rattle.firing.proofs.Own.{own-none}
 
@@ -86,7 +88,8 @@ by-sides : (same own : Bool) → (same ≡ false → own ≡ true) → byKinds t
 by-sides true own h = refl
 by-sides false own h = sym (h refl)
 
-module _ (k : Condition) (few : k .attribute ≤ lastAttribute) (b v : ℕ) (r : Record) (e : classOf (typesTogether * b) ≡ classOf (r .«event_type»)) where
+module _ (k : Condition) (few : k .attribute ≤ lastAttribute) (b v : ℕ) (r : Record)
+    (e : classOf (typesTogether * b) ≡ classOf (r .«event_type»)) where
   abbrev own : Bool
   own = implies (isOwn v k) (holds k r r)
 
@@ -151,7 +154,10 @@ module _ (plan bytes : List ℕ) (i n c : ℕ) where
       ap (λ (t : Bool). t && every (kindHolds kind v) c) (mask-inside f n v l))
 
   -- five kinds of tests together are one
-  every-kind : (a t o s m b : ℕ → Bool) → ((((every a c && every t c) && every o c) && every s c) && every m c) && every b c ≡ every (λ q. ((((a q && t q) && o q) && s q) && m q) && b q) c
+  every-kind :
+      (a t o s m b : ℕ → Bool)
+      → ((((every a c && every t c) && every o c) && every s c) && every m c) && every b c
+      ≡ every (λ q. ((((a q && t q) && o q) && s q) && m q) && b q) c
   every-kind a t o s m b =
       ap (λ (x : Bool). (((x && every o c) && every s c) && every m c) && every b c) (sym (every-both a t c))
       ∙ ap (λ (x : Bool). ((x && every s c) && every m c) && every b c) (sym (every-both (λ q. a q && t q) o c))
@@ -162,7 +168,8 @@ module _ (plan bytes : List ℕ) (i n c : ℕ) where
   -- the class, and then kind by kind
   pub all-settled :
       Sound plan → Classed plan n c → c ≤ mostConditions → (t : ℕ) → t < 256 → t ≡ recordAt bytes i .«event_type»
-      → settled bothSides (settled 4 (settled 3 (settled 0 (settled 1 (classIn plan (t / typesTogether)))))) ≡ canBy plan n c bytes i
+      → settled bothSides (settled 4 (settled 3 (settled 0 (settled 1 (classIn plan (t / typesTogether))))))
+      ≡ canBy plan n c bytes i
   unfolding classMask canBy otherHolds ownHolds
   all-settled sound classed few t h e =
       let b = t / typesTogether in

@@ -1,5 +1,5 @@
--- What a step on v asks of one condition falls into two parts: what the new event alone decides, and what each binding of
--- the other variable decides together with it. Assumes nothing.
+-- What a step on v asks of one condition falls into two parts: what the new event alone decides, and what each binding
+-- of the other variable decides together with it. Assumes nothing.
 use mathlib.Core.Path.{_≡_, _∙_, refl, sym, ap, ap₂}
 use mathlib.Core.Bool.{Bool, true, false, _&&_, and-true, or-false}
 use mathlib.Core.List.{[], _∷_, map}
@@ -25,11 +25,15 @@ pairOf look i v k b =
 
 module _ (look : ℕ → Record) (i v : ℕ) (k : Condition) (b : Binding) where
   -- v is named on the first side
-  pub pair-first : eqb (k .variable) v ≡ true → pairOf look i v k b ≡ implies (eqb (b .variable) (k .variable2)) (holds k (look i) (look (b .at)))
+  pub pair-first :
+      eqb (k .variable) v ≡ true
+      → pairOf look i v k b ≡ implies (eqb (b .variable) (k .variable2)) (holds k (look i) (look (b .at)))
   pair-first e = rw (e, pairOf)
 
   -- v is named on the second side
-  pub pair-second : eqb (k .variable) v ≡ false → pairOf look i v k b ≡ implies (eqb (b .variable) (k .variable)) (holds k (look (b .at)) (look i))
+  pub pair-second :
+      eqb (k .variable) v ≡ false
+      → pairOf look i v k b ≡ implies (eqb (b .variable) (k .variable)) (holds k (look (b .at)) (look i))
   pair-second e = rw (e, pairOf)
 
 -- ## The bindings of one variable
@@ -39,7 +43,8 @@ module _ (u : ℕ) (h : ℕ → Bool) where
   abbrev bound : Reading → Bool
   bound r = all (λ (b : Binding). implies (eqb (b .variable) u) (h (b .at))) r
 
-  chosen : (r : Reading) → all h (map (λ (b : Binding). b .at) (filter (λ (b : Binding). eqb (b .variable) u) r)) ≡ bound r
+  chosen :
+      (r : Reading) → all h (map (λ (b : Binding). b .at) (filter (λ (b : Binding). eqb (b .variable) u) r)) ≡ bound r
   unfolding all filter keep
   chosen [] = refl
   chosen (b ∷ bs) =
@@ -82,7 +87,7 @@ module _ (B : Block) (r : Reading) (v j : ℕ) (k : Condition) where
       (λ f. rw (e, f, carries, passes))
 
   module _ (e : eqb (k .form) 0 ≡ false) where
-    -- it names v on both sides, and looks at the new event only
+    -- it names v on both sides: the new event alone is asked
     twice-parts : eqb (k .variable) v ≡ true → eqb (k .variable2) v ≡ true → asked ≡ ownPart && joinPart
     unfolding carries passes choices all isOwn joins
     twice-parts f g = rw (e, f, g, carries, passes, choices) (ap (λ (t : Bool). t && true) (and-true (holds k (recordIn B j) (recordIn B j))))

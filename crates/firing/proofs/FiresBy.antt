@@ -1,5 +1,5 @@
--- The test in parts is the rule's: the step on v fires by the plan, the mask and the held reading exactly where it fires
--- by the pattern, the block and the reading. Assumes nothing.
+-- The test in parts is the rule's: the step on v fires by the plan, the mask and the held reading exactly where it
+-- fires by the pattern, the block and the reading. Assumes nothing.
 use mathlib.Core.Path.{_≡_, _∙_, refl, sym, ap, ap₂}
 use mathlib.Core.Bool.{Bool, true, false, _&&_, _||_}
 use mathlib.Core.List.{List, [], _∷_, List·Memᴰ·head}
@@ -24,10 +24,12 @@ use Rattle.automaton.specs.Filtering.{implies, all}
 use Rattle.automaton.specs.Automaton.{leaves, marked, carries}
 use Rattle.automaton.proofs.Membership.{all-mem}
 use Rattle.automaton.proofs.All.{implies-of, implies-true, all-of, all-same, all-map, all-upto, implies-yes}
-use Rattle.rule.specs.Rule.{Binding, Reading, TimesNeverFall, behindEnd, recordIn, timeAt, binds, passes, inOrder, allowed, fires}
+use Rattle.rule.specs.Rule.{Binding, Reading, TimesNeverFall, behindEnd, recordIn, timeAt, binds, passes, inOrder}
+use Rattle.rule.specs.Rule.{allowed, fires}
 use Rattle.slots.specs.Slots.{holding}
 use Rattle.firing.specs.Plan.{isOwn, isJoin, joinMask, conditionIn, marksIn, joinsIn, IsPlan}
-use Rattle.firing.specs.Firing.{ownHolds, canBy, leavesBy, laterThan, laterBy, pairHolds, joinHolds, joinsBy, firesBy, ReadBelow}
+use Rattle.firing.specs.Firing.{ownHolds, canBy, leavesBy, laterThan, laterBy, pairHolds, joinHolds, joinsBy}
+use Rattle.firing.specs.Firing.{firesBy, ReadBelow}
 use Rattle.firing.proofs.States.{leaves-by, marked-by}
 use Rattle.firing.proofs.Conditions.{pairOf, condition-parts}
 use Rattle.firing.proofs.Plans.{before-in, after-in, marks-in, joins-in}
@@ -40,11 +42,14 @@ reordered false true false j = refl
 reordered false false t j = refl
 
 -- a pair is tested by its two records
-pair-look : (f g : ℕ → Record) (i v : ℕ) (k : Condition) (b : Binding) → f i ≡ g i → f (b .at) ≡ g (b .at) → pairOf f i v k b ≡ pairOf g i v k b
+pair-look :
+    (f g : ℕ → Record) (i v : ℕ) (k : Condition) (b : Binding) → f i ≡ g i → f (b .at) ≡ g (b .at)
+    → pairOf f i v k b ≡ pairOf g i v k b
 pair-look f g i v k b d e =
     ap₂ (λ (x y : Record). elim (eqb (k .variable) v) [ true ↦ implies (eqb (b .variable) (k .variable2)) (holds k x y) | false ↦ implies (eqb (b .variable) (k .variable)) (holds k y x) ]) d e
 
-module _ (p : Pattern) (o : InOrder p) (plan : List ℕ) (is : IsPlan p plan) (bytes : List ℕ) (rising : TimesNeverFall (recordsOf bytes)) (i : ℕ) (h : i < recordCount bytes) where
+module _ (p : Pattern) (o : InOrder p) (plan : List ℕ) (is : IsPlan p plan) (bytes : List ℕ)
+    (rising : TimesNeverFall (recordsOf bytes)) (i : ℕ) (h : i < recordCount bytes) where
   -- the records up to i, in the list and in the bytes
   listed : (j : ℕ) → j ≤ i → recordIn (recordsOf bytes) j ≡ recordAt bytes j
   listed j l = record-listed bytes j behindEnd (omega arith)
@@ -59,7 +64,7 @@ module _ (p : Pattern) (o : InOrder p) (plan : List ℕ) (is : IsPlan p plan) (b
       abbrev isLater : Binding → Bool
       isLater a = ltb (timeAt (recordsOf bytes) (a .at)) (timeAt (recordsOf bytes) i)
 
-      -- later than the latest binding is later than everything bound
+      -- what is later than the latest binding is later than all of them
       latest-last : isLater b ≡ all isLater (b ∷ bs)
       latest-last =
           same-test (isLater b) (all isLater (b ∷ bs))
@@ -158,7 +163,8 @@ module _ (p : Pattern) (o : InOrder p) (plan : List ℕ) (is : IsPlan p plan) (b
 
       -- ## The step
 
-      pub fires-by : firesBy plan bytes i (canBy plan (p .n) (p .c) bytes i) v (holding r) ≡ fires p (recordsOf bytes) r v i
+      pub fires-by :
+          firesBy plan bytes i (canBy plan (p .n) (p .c) bytes i) v (holding r) ≡ fires p (recordsOf bytes) r v i
       unfolding firesBy fires holding
       fires-by =
           ap₂ (λ (a j : Bool). a && (leavesBy plan (holding r .state) v && (laterBy plan bytes i v (holding r) && j))) own-by joins-by

@@ -49,25 +49,39 @@ module _ (v : ℕ) (k : Condition) where
 
 module _ (bytes : List ℕ) (v : ℕ) (k : Condition) (b : Binding) where
   module _ (x : ℕ) where
-    pub meets-first : eqb (k .variable) v ≡ true → pairMeets bytes x v k b ≡ implies (eqb (b .variable) (k .variable2)) (meets (k .operator) (orderOf (pos x) (pos (raise (value (k .attribute2) (recordAt bytes (b .at)))))))
+    pub meets-first :
+        eqb (k .variable) v ≡ true
+        → pairMeets bytes x v k b ≡ implies (eqb (b .variable) (k .variable2))
+        (meets (k .operator) (orderOf (pos x) (pos (raise (value (k .attribute2) (recordAt bytes (b .at)))))))
     unfolding pairMeets
     meets-first e = rw (e, pairMeets)
 
-    pub meets-second : eqb (k .variable) v ≡ false → pairMeets bytes x v k b ≡ implies (eqb (b .variable) (k .variable)) (meets (k .operator) (orderOf (pos (raise (value (k .attribute) (recordAt bytes (b .at))))) (pos x)))
+    pub meets-second :
+        eqb (k .variable) v ≡ false
+        → pairMeets bytes x v k b ≡ implies (eqb (b .variable) (k .variable))
+        (meets (k .operator) (orderOf (pos (raise (value (k .attribute) (recordAt bytes (b .at))))) (pos x)))
     unfolding pairMeets
     meets-second e = rw (e, pairMeets)
 
   module _ (i : ℕ) where
-    holds-first : eqb (k .variable) v ≡ true → pairHolds bytes i v k b ≡ implies (eqb (b .variable) (k .variable2)) (holds k (recordAt bytes i) (recordAt bytes (b .at)))
+    holds-first :
+        eqb (k .variable) v ≡ true
+        → pairHolds bytes i v k b
+        ≡ implies (eqb (b .variable) (k .variable2)) (holds k (recordAt bytes i) (recordAt bytes (b .at)))
     unfolding pairHolds
     holds-first e = rw (e, pairHolds)
 
-    holds-second : eqb (k .variable) v ≡ false → pairHolds bytes i v k b ≡ implies (eqb (b .variable) (k .variable)) (holds k (recordAt bytes (b .at)) (recordAt bytes i))
+    holds-second :
+        eqb (k .variable) v ≡ false
+        → pairHolds bytes i v k b
+        ≡ implies (eqb (b .variable) (k .variable)) (holds k (recordAt bytes (b .at)) (recordAt bytes i))
     unfolding pairHolds
     holds-second e = rw (e, pairHolds)
 
     -- the raised numbers say what the condition says
-    pair-same : (x : ℕ) → (k .form ≡ 0 → ⊥) → x ≡ raise (value (sideOf v k) (recordAt bytes i)) → pairMeets bytes x v k b ≡ pairHolds bytes i v k b
+    pair-same :
+        (x : ℕ) → (k .form ≡ 0 → ⊥) → x ≡ raise (value (sideOf v k) (recordAt bytes i))
+        → pairMeets bytes x v k b ≡ pairHolds bytes i v k b
     pair-same x f e =
         by-test (eqb (k .variable) v)
         (λ t.
@@ -97,10 +111,14 @@ module _ (v : ℕ) (read k : Condition) (e : read ≡ k) where
   pub value-read : (x : ℕ) (r : Record) → x ≡ raise (value (sideOf v read) r) → x ≡ raise (value (sideOf v k) r)
   value-read x r f = f ∙ ap (λ (q : Condition). raise (value (sideOf v q) r)) e
 
-  pub bound-read : (state s : ℕ) (found t : Bool) → state ≡ s → found ≡ bit state (otherOf v read) → found ≡ t → bit s (otherOf v k) ≡ t
+  pub bound-read :
+      (state s : ℕ) (found t : Bool) → state ≡ s → found ≡ bit state (otherOf v read) → found ≡ t
+      → bit s (otherOf v k) ≡ t
   bound-read state s found t f g h = ap₂ (λ (a : ℕ) (q : Condition). bit a (otherOf v q)) (sym f) (sym e) ∙ sym g ∙ h
 
-  pub meets-read : (bytes : List ℕ) (x : ℕ) (b : Binding) (found t : Bool) → found ≡ pairMeets bytes x v read b → found ≡ t → pairMeets bytes x v k b ≡ t
+  pub meets-read :
+      (bytes : List ℕ) (x : ℕ) (b : Binding) (found t : Bool) → found ≡ pairMeets bytes x v read b → found ≡ t
+      → pairMeets bytes x v k b ≡ t
   meets-read bytes x b found t f g = ap (λ (q : Condition). pairMeets bytes x v q b) (sym e) ∙ sym f ∙ g
 
 -- ## One condition
@@ -110,18 +128,25 @@ module _ (bytes slot : List ℕ) (v x : ℕ) (k : Condition) where
   unfolding bindingsIn all
   tried-none = refl
 
-  pub tried-more : (j : ℕ) → all (pairMeets bytes x v k) (bindingsIn slot j) ≡ true → pairMeets bytes x v k (bindingAt slot j) ≡ true → all (pairMeets bytes x v k) (bindingsIn slot (j + 1)) ≡ true
+  pub tried-more :
+      (j : ℕ) → all (pairMeets bytes x v k) (bindingsIn slot j) ≡ true → pairMeets bytes x v k (bindingAt slot j) ≡ true
+      → all (pairMeets bytes x v k) (bindingsIn slot (j + 1)) ≡ true
   unfolding bindingsIn all
   tried-more j e f = rw add-one (ap₂ (λ (s t : Bool). s && t) f e)
 
   module _ (i : ℕ) (form : k .form ≡ 0 → ⊥) (new : x ≡ raise (value (sideOf v k) (recordAt bytes i))) where
     -- all bindings have been tried
-    pub tried-all : all (pairMeets bytes x v k) (bindingsIn slot (countIn slot)) ≡ true → all (pairHolds bytes i v k) (bindingsIn slot (countIn slot)) ≡ true
+    pub tried-all :
+        all (pairMeets bytes x v k) (bindingsIn slot (countIn slot)) ≡ true
+        → all (pairHolds bytes i v k) (bindingsIn slot (countIn slot)) ≡ true
     tried-all t =
         all-same (pairHolds bytes i v k) (pairMeets bytes x v k) (bindingsIn slot (countIn slot)) (λ b m. sym (pair-same bytes v k b i x form new)) ∙ t
 
     -- a combination that fails
-    pub tried-fails : (j : ℕ) → j < countIn slot → pairMeets bytes x v k (bindingAt slot j) ≡ false → all (pairHolds bytes i v k) (bindingsIn slot (countIn slot)) ≡ true → ⊥
+    pub tried-fails :
+        (j : ℕ) → j < countIn slot → pairMeets bytes x v k (bindingAt slot j) ≡ false
+        → all (pairHolds bytes i v k) (bindingsIn slot (countIn slot)) ≡ true
+        → ⊥
     tried-fails j l f t =
         clash (pair-same bytes v k (bindingAt slot j) i x form new ∙ all-mem (pairHolds bytes i v k) (binding-among slot (countIn slot) j l) t) f
 
@@ -163,7 +188,9 @@ module _ (plan bytes : List ℕ) (i v : ℕ) (r : Reading) where
     pub left-below : (at : ℕ) → bit rest at ≡ true → at < mostConditions
     left-below at e = by-order at mostConditions (λ l. l) (λ l. clash e (bit-high rest mostConditions at (left .small) l))
 
-    pub left-less : (at : ℕ) → bit rest at ≡ true → all (pairHolds bytes i v (conditionIn plan at)) r ≡ true → Left plan bytes i v r (rest - 2 ^ at)
+    pub left-less :
+        (at : ℕ) → bit rest at ≡ true → all (pairHolds bytes i v (conditionIn plan at)) r ≡ true
+        → Left plan bytes i v r (rest - 2 ^ at)
     unfolding joinHolds
     left-less at e t =
         record {
@@ -181,7 +208,9 @@ module _ (plan bytes : List ℕ) (i v : ℕ) (r : Reading) where
     joins-done e = every-of (joinHolds plan bytes i v r) mostConditions (λ q l. left .done q (ap (λ (x : ℕ). bit x q) e ∙ bit-zero q))
 
     -- one that is left fails
-    pub joins-fail : (at : ℕ) → bit rest at ≡ true → (all (pairHolds bytes i v (conditionIn plan at)) r ≡ true → ⊥) → joinsBy plan bytes i v r ≡ false
+    pub joins-fail :
+        (at : ℕ) → bit rest at ≡ true → (all (pairHolds bytes i v (conditionIn plan at)) r ≡ true → ⊥)
+        → joinsBy plan bytes i v r ≡ false
     unfolding joinsBy joinHolds
     joins-fail at e f =
         by-test (every (joinHolds plan bytes i v r) mostConditions)

@@ -1,5 +1,5 @@
--- A mask of variables, settled condition by condition: by conditions that look at one event alone, and by those on class.
--- Assumes nothing.
+-- A mask of variables, settled condition by condition: by conditions that look at one event alone, and by those on
+-- class. Assumes nothing.
 use Rattle.automaton.proofs.All.{implies-yes}
 use mathlib.Core.Path.{_≡_, _∙_, refl, sym, ap, ap₂}
 use mathlib.Core.Bool.{Bool, true, false, not, _&&_, _||_, and-true, and-self}
@@ -23,11 +23,14 @@ module _ (can : ℕ) (k : Condition) (r : Record) where
   unfolding settled
   settled-join e = rw (e, settled)
 
-  pub settled-holds : eqb (k .form) 0 || eqb (k .variable) (k .variable2) ≡ true → holds k r r ≡ true → settled can k r ≡ can
+  pub settled-holds :
+      eqb (k .form) 0 || eqb (k .variable) (k .variable2) ≡ true → holds k r r ≡ true → settled can k r ≡ can
   unfolding settled
   settled-holds e f = rw (e, f, settled)
 
-  pub settled-fails : eqb (k .form) 0 || eqb (k .variable) (k .variable2) ≡ true → holds k r r ≡ false → settled can k r ≡ can - oneIf (bit can (k .variable)) * 2 ^ k .variable
+  pub settled-fails :
+      eqb (k .form) 0 || eqb (k .variable) (k .variable2) ≡ true → holds k r r ≡ false
+      → settled can k r ≡ can - oneIf (bit can (k .variable)) * 2 ^ k .variable
   unfolding settled
   settled-fails e f = rw (e, f, settled)
 
@@ -91,7 +94,9 @@ module _ (can : ℕ) (k : Condition) (r : Record) where
   unfolding settledOnClass
   off-class-settled e = rw (e, settledOnClass)
 
-on-class-mask : (f : ℕ → Bool) (n : ℕ) (k : Condition) (r : Record) → settledOnClass (mask f n) k r ≡ mask (λ v. f v && implies (isOnClass k) (implies (isOwn v k) (holds k r r))) n
+on-class-mask :
+    (f : ℕ → Bool) (n : ℕ) (k : Condition) (r : Record)
+    → settledOnClass (mask f n) k r ≡ mask (λ v. f v && implies (isOnClass k) (implies (isOwn v k) (holds k r r))) n
 on-class-mask f n k r =
     let asked : Bool → ℕ → Bool = λ t v. f v && implies t (implies (isOwn v k) (holds k r r)) in
     by-test (isOnClass k)
@@ -106,7 +111,10 @@ module _ (condition : ℕ → Condition) (n b : ℕ) where
   unfolding classMask
   class-none = sym (mask-all (λ v. every (λ i. classHolds b v (condition i)) 0) n (λ v. every-none (λ i. classHolds b v (condition i))))
 
-  pub class-more : (can q s : ℕ) (r : Record) → can ≡ classMask condition n q b → r ≡ sampleOf b → s ≡ settledOnClass can (condition q) r → s ≡ classMask condition n (q + 1) b
+  pub class-more :
+      (can q s : ℕ) (r : Record) → can ≡ classMask condition n q b
+      → r ≡ sampleOf b → s ≡ settledOnClass can (condition q) r
+      → s ≡ classMask condition n (q + 1) b
   unfolding classMask classHolds
   class-more can q s r c e f =
       f

@@ -17,10 +17,14 @@ use Rattle.numbers.proofs.Bits.{mask-bound, mask-bit, mask-inside, mask-same, d
 use Rattle.patterns.specs.declared.Condition.{Condition}
 use Rattle.patterns.specs.declared.Pattern.{Pattern}
 use Rattle.patterns.specs.Patterns.{mostVariables, mostConditions, lastAttribute, lastOperator, conditionOf}
-use Rattle.patterns.specs.Comparison.{meets}
+use Rattle.patterns.specs.Comparison.{orders, meets}
 use Rattle.patterns.specs.Checked.{conditionAt, InOrder}
 use Rattle.patterns.proofs.Filled.{filled-at, filled-more, filled-length}
-use Rattle.firing.specs.Plan.{planRoom, firstMask, firstJoins, firstClass, othersPlace, typePlaces, maskPlace, failingOf, firstOrder, wordOf, noCondition, joins, isJoin, isOther, variableMask, joinMask, classHolds, classMask, otherMask, placeOf, planUpTo, planOf, conditionIn, beforeIn, afterIn, marksIn, joinsIn, classIn, othersIn, bothSides, Tells, Placed, IsPlan, Sound, Classed}
+use Rattle.firing.specs.Plan.{planRoom, firstMask, firstJoins, firstClass, othersPlace, typePlaces, maskPlace}
+use Rattle.firing.specs.Plan.{failingOf, firstOrder, wordOf, noCondition, joins, isJoin, isOther, variableMask}
+use Rattle.firing.specs.Plan.{joinMask, classHolds, classMask, otherMask, placeOf, planUpTo, planOf, conditionIn}
+use Rattle.firing.specs.Plan.{beforeIn, afterIn, marksIn, joinsIn, classIn, othersIn, bothSides, Tells, Placed}
+use Rattle.firing.specs.Plan.{IsPlan, Sound, Classed}
 
 -- ## Conditions
 
@@ -51,16 +55,16 @@ fields-back word k a b c d e f g = rw (a, b, c, d, e, f, g)
 
 pub failing-bound : (operator : ℕ) → failingOf operator < 8
 unfolding failingOf
-failing-bound operator = mask-bound (λ order. not (meets operator order)) 3
+failing-bound operator = mask-bound (λ order. not (meets operator order)) orders
 
-failing-digit : (operator o : ℕ) → o < 3 → failingOf operator / 2 ^ o % 2 ≡ oneIf (not (meets operator o))
+failing-digit : (operator o : ℕ) → o < orders → failingOf operator / 2 ^ o % 2 ≡ oneIf (not (meets operator o))
 unfolding failingOf
 failing-digit operator o l =
     let digit = failingOf operator / 2 ^ o % 2 in
-    sym (digit-one digit (omega arith)) ∙ ap oneIf (mask-inside (λ order. not (meets operator order)) 3 o l)
+    sym (digit-one digit (omega arith)) ∙ ap oneIf (mask-inside (λ order. not (meets operator order)) orders o l)
 
 -- three orders
-by-three : (P : ℕ → Type 0) → P 0 → P 1 → P 2 → (o : ℕ) → o < 3 → P o
+by-three : (P : ℕ → Type 0) → P 0 → P 1 → P 2 → (o : ℕ) → o < orders → P o
 by-three P zeroth first second o l =
     by-order o 1
     (λ h. let e : 0 ≡ o = omega arith in subst P e zeroth)
@@ -69,7 +73,9 @@ by-three P zeroth first second o l =
     (λ m. let e : 2 ≡ o = omega arith in subst P e second))
 
 module _ (high failing constant : ℕ) (f : failing < 8) (c : constant < 2 ^ 32) where
-  digit-among : (o : ℕ) → o < 3 → (high * 2 ^ 46 + failing * 2 ^ firstOrder + constant) / 2 ^ (firstOrder + o) % 2 ≡ failing / 2 ^ o % 2
+  digit-among :
+      (o : ℕ) → o < orders
+      → (high * 2 ^ 46 + failing * 2 ^ firstOrder + constant) / 2 ^ (firstOrder + o) % 2 ≡ failing / 2 ^ o % 2
   digit-among =
       by-three (λ o. (high * 2 ^ 46 + failing * 2 ^ firstOrder + constant) / 2 ^ (firstOrder + o) % 2 ≡ failing / 2 ^ o % 2)
       (omega arith)
@@ -133,20 +139,26 @@ module _ (p : Pattern) where
   unfolding placeOf
   place-none i h l = rw (lt-ltb i firstMask h, le-ltb i (p .c) l, placeOf)
 
-  pub place-mask : (place : ℕ) → firstMask ≤ place → place < firstJoins → placeOf p place ≡ variableMask p ((place - firstMask) / mostVariables) ((place - firstMask) % mostVariables)
+  pub place-mask :
+      (place : ℕ) → firstMask ≤ place → place < firstJoins
+      → placeOf p place ≡ variableMask p ((place - firstMask) / mostVariables) ((place - firstMask) % mostVariables)
   unfolding placeOf
   place-mask place h l = rw (le-ltb place firstMask h, lt-ltb place firstJoins l, placeOf)
 
-  pub place-joins : (place : ℕ) → firstJoins ≤ place → place < firstClass → placeOf p place ≡ joinMask p (place - firstJoins)
+  pub place-joins :
+      (place : ℕ) → firstJoins ≤ place → place < firstClass → placeOf p place ≡ joinMask p (place - firstJoins)
   unfolding placeOf
   place-joins place h l = rw (le-ltb place firstMask (omega arith), le-ltb place firstJoins h, lt-ltb place firstClass l, placeOf)
 
-  pub place-class : (place : ℕ) → firstClass ≤ place → place < othersPlace → placeOf p place ≡ classMask (conditionAt p) (p .n) (p .c) (place - firstClass)
+  pub place-class :
+      (place : ℕ) → firstClass ≤ place → place < othersPlace
+      → placeOf p place ≡ classMask (conditionAt p) (p .n) (p .c) (place - firstClass)
   unfolding placeOf
   place-class place h l =
       rw (le-ltb place firstMask (omega arith), le-ltb place firstJoins (omega arith), le-ltb place firstClass h, lt-ltb place othersPlace l, placeOf)
 
-  pub place-others : (place : ℕ) → othersPlace ≤ place → placeOf p place ≡ otherMask (conditionAt p) (p .c) (place - othersPlace)
+  pub place-others :
+      (place : ℕ) → othersPlace ≤ place → placeOf p place ≡ otherMask (conditionAt p) (p .c) (place - othersPlace)
   unfolding placeOf
   place-others place h =
       rw (le-ltb place firstMask (omega arith), le-ltb place firstJoins (omega arith), le-ltb place firstClass (omega arith), le-ltb place othersPlace h, placeOf)
@@ -160,7 +172,9 @@ module _ (p : Pattern) where
   plan-length = filled-length planRoom 0 (placeOf p) planRoom (le-refl planRoom)
 
   -- a turn of the loop that fills the plan
-  pub plan-more : (plan : List ℕ) (place number : ℕ) → place < planRoom → plan ≡ planUpTo p place → number ≡ placeOf p place → set plan place number ≡ planUpTo p (place + 1)
+  pub plan-more :
+      (plan : List ℕ) (place number : ℕ) → place < planRoom → plan ≡ planUpTo p place → number ≡ placeOf p place
+      → set plan place number ≡ planUpTo p (place + 1)
   unfolding planUpTo
   plan-more plan place number h e f =
       ap₂ (λ (l : List ℕ) (x : ℕ). set l place x) e f ∙ filled-more planRoom 0 (placeOf p) place h
@@ -169,7 +183,8 @@ module _ (p : Pattern) where
   unfolding planUpTo
   upto-length place h = filled-length planRoom 0 (placeOf p) place h
 
-  mask-at : (which v : ℕ) → which < 3 → v < mostVariables → getD (planOf p) (maskPlace which v) 0 ≡ variableMask p which v
+  mask-at :
+      (which v : ℕ) → which < 3 → v < mostVariables → getD (planOf p) (maskPlace which v) 0 ≡ variableMask p which v
   mask-at which v h l =
       let a : (maskPlace which v - firstMask) / mostVariables ≡ which = omega arith in
       let b : (maskPlace which v - firstMask) % mostVariables ≡ v = omega arith in
@@ -186,7 +201,8 @@ module _ (p : Pattern) where
       let a : (firstClass + b) - firstClass ≡ b = omega arith in
       plan-place (firstClass + b) (omega arith) ∙ place-class (firstClass + b) (omega arith) (omega arith) ∙ ap (classMask (conditionAt p) (p .n) (p .c)) a
 
-  others-at : (kind : ℕ) → kind ≤ bothSides → getD (planOf p) (othersPlace + kind) 0 ≡ otherMask (conditionAt p) (p .c) kind
+  others-at :
+      (kind : ℕ) → kind ≤ bothSides → getD (planOf p) (othersPlace + kind) 0 ≡ otherMask (conditionAt p) (p .c) kind
   others-at kind l =
       let a : (othersPlace + kind) - othersPlace ≡ kind = omega arith in
       plan-place (othersPlace + kind) (omega arith) ∙ place-others (othersPlace + kind) (omega arith) ∙ ap (otherMask (conditionAt p) (p .c)) a
@@ -217,7 +233,8 @@ module _ (p : Pattern) where
             subst (λ (j : ℕ). Tells (placeOf p j)) e (subst Tells (placed .is) (placed .tells small)));
       }
 
-  pub plan-made : (plan : List ℕ) → p .c ≤ mostConditions → plan ≡ planUpTo p planRoom → Backs p planRoom → IsPlan p plan
+  pub plan-made :
+      (plan : List ℕ) → p .c ≤ mostConditions → plan ≡ planUpTo p planRoom → Backs p planRoom → IsPlan p plan
   unfolding planOf
   plan-made plan few e b =
       record {
@@ -261,7 +278,10 @@ module _ (p : Pattern) (o : InOrder p) (plan : List ℕ) (is : IsPlan p plan) wh
       ap conditionOf (ap (λ (q : List ℕ). getD q i 0) (is .made) ∙ plan-place p i (omega arith) ∙ place-none p i h l)
 
   -- what holds of each of the conditions and of none
-  each-condition : (P : Condition → Type 0) → ((i : ℕ) → i < p .c → P (conditionAt p i)) → P (conditionOf noCondition) → (i : ℕ) → i < mostConditions → P (conditionIn plan i)
+  each-condition :
+      (P : Condition → Type 0) → ((i : ℕ) → i < p .c → P (conditionAt p i))
+      → P (conditionOf noCondition) → (i : ℕ) → i < mostConditions
+      → P (conditionIn plan i)
   each-condition P one none i h =
       by-order i (p .c)
       (λ l. subst P (sym (is .condition i l)) (one i l))

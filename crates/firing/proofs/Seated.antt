@@ -26,11 +26,13 @@ unfolding binds
 member-bound {b} (List·Memᴰ·head {x} {xs} e) = ap (λ (t : Bool). t || binds xs (b .variable)) (eq-eqb (x .variable) (b .variable) (ap (λ (a : Binding). a .variable) (sym e)))
 member-bound {b} (List·Memᴰ·tail {x} m) = ap (λ (t : Bool). eqb (x .variable) (b .variable) || t) (member-bound m) ∙ or-true (eqb (x .variable) (b .variable))
 
-module _ (p : Pattern) (o : InOrder p) (bytes slot : List ℕ) (i : ℕ) (h : i < recordCount bytes) (r : Reading) (known : ReadBelow p i r) where
+module _ (p : Pattern) (o : InOrder p) (bytes slot : List ℕ) (i : ℕ) (h : i < recordCount bytes) (r : Reading)
+    (known : ReadBelow p i r) where
   here : recordBytes * i + recordBytes ≤ length bytes
   here = omega arith
 
-  pub seated-holding : length slot ≡ slotBytes → countIn slot ≤ mostBindings → heldIn slot ≡ holding r → Seated bytes slot
+  pub seated-holding :
+      length slot ≡ slotBytes → countIn slot ≤ mostBindings → heldIn slot ≡ holding r → Seated bytes slot
   unfolding heldIn holding
   seated-holding size few e =
       let state = ap (λ (x : Held). x .state) e in
@@ -46,6 +48,8 @@ module _ (p : Pattern) (o : InOrder p) (bytes slot : List ℕ) (i : ℕ) (h : i 
         inBlock = λ b m. let below = known .below b (subst (List·Memᴰ b) same m) in omega arith;
       }
 
-  pub fit-holding : (plan : List ℕ) → IsPlan p plan → length slot ≡ slotBytes → countIn slot ≤ mostBindings → heldIn slot ≡ holding r → Fit plan bytes i slot
+  pub fit-holding :
+      (plan : List ℕ) → IsPlan p plan → length slot ≡ slotBytes → countIn slot ≤ mostBindings → heldIn slot ≡ holding r
+      → Fit plan bytes i slot
   fit-holding plan is size few e =
       record { sound = sound-plan p o plan is; here = here; seated = seated-holding size few e }

@@ -15,7 +15,8 @@ use Rattle.numbers.specs.Numbers.{every, oneIf}
 use Rattle.numbers.specs.Bits.{bit, mask}
 use Rattle.numbers.proofs.Cases.{by-test, by-order, both, same-test}
 use Rattle.numbers.proofs.Every.{every-of, every-true, every-same}
-use Rattle.numbers.proofs.Bits.{bit-high, bit-zero, bit-and, bit-weight, bits-same, mask-bound, mask-inside, mask-bit, mask-same, mask-of-bits}
+use Rattle.numbers.proofs.Bits.{bit-high, bit-zero, bit-and, bit-weight, bits-same, mask-bound, mask-inside, mask-bit}
+use Rattle.numbers.proofs.Bits.{mask-same, mask-of-bits}
 use Rattle.records.specs.declared.Record.{Record}
 use Rattle.records.specs.Records.{recordAt}
 use Rattle.patterns.specs.declared.Condition.{Condition}
@@ -24,7 +25,8 @@ use Rattle.patterns.specs.Comparison.{value, raise, constantValue, comparedWith
 use Rattle.patterns.proofs.Comparison.{compared-constant, compared-value, raised-holds}
 use Rattle.automaton.specs.Filtering.{implies}
 use Rattle.automaton.proofs.Membership.{clash}
-use Rattle.firing.specs.Plan.{classAttribute, otherOwn, isOther, otherMask, bothSides, conditionIn, othersIn, Classed}
+use Rattle.firing.specs.Plan.{classAttribute, otherOwn, isOther, otherMask, bothSides, conditionIn, othersIn}
+use Rattle.firing.specs.Plan.{Classed}
 use Rattle.firing.specs.Firing.{ownHolds, otherHolds, settled, settledOrder, valuesOf, settledBy}
 use Rattle.firing.proofs.Own.{settled-holds, settled-fails, settled-mask}
 use Rattle.firing.proofs.Joins.{less-bit}
@@ -117,7 +119,8 @@ module _ (plan bytes : List ℕ) (i n c kind can : ℕ) where
         }
 
     -- one of them settled
-    left-less : (s : ℕ) → s ≡ settled (leftBy rest) (conditionIn plan at) (recordAt bytes i) → s ≡ leftBy (rest - 2 ^ at)
+    left-less :
+        (s : ℕ) → s ≡ settled (leftBy rest) (conditionIn plan at) (recordAt bytes i) → s ≡ leftBy (rest - 2 ^ at)
     unfolding otherHolds ownHolds
     left-less s e =
         e
@@ -130,7 +133,8 @@ module _ (plan bytes : List ℕ) (i n c kind can : ℕ) where
 
     -- a turn of the loop
     pub left-turn :
-        (left s next : ℕ) → left ≡ leftBy rest → s ≡ settled left (conditionIn plan at) (recordAt bytes i) → next ≡ rest - 2 ^ at
+        (left s next : ℕ) → left ≡ leftBy rest → s ≡ settled left (conditionIn plan at) (recordAt bytes i)
+        → next ≡ rest - 2 ^ at
         → (next < 2 ^ c) × OfKind plan kind next × (s ≡ leftBy next)
     left-turn left s next e f g = (
       rw g (lt-of-le-of-lt (sub-le rest (2 ^ at)) small),
@@ -140,8 +144,10 @@ module _ (plan bytes : List ℕ) (i n c kind can : ℕ) where
 
 -- ## What the raised numbers settle
 
-module _ (k : Condition) (own : eqb (k .form) 0 || eqb (k .variable) (k .variable2) ≡ true) (can x y : ℕ) (r : Record) where
-  pub order-settled : x ≡ raise (value (k .attribute) r) → y ≡ raise (comparedWith k r) → settledOrder can k x y ≡ settled can k r
+module _ (k : Condition) (own : eqb (k .form) 0 || eqb (k .variable) (k .variable2) ≡ true) (can x y : ℕ)
+    (r : Record) where
+  pub order-settled :
+      x ≡ raise (value (k .attribute) r) → y ≡ raise (comparedWith k r) → settledOrder can k x y ≡ settled can k r
   unfolding settledOrder
   order-settled e f =
       let same = raised-holds k r r x y e f in
@@ -165,7 +171,9 @@ module _ (kind : ℕ) (k : Condition) (known : kind < bothSides) (is : isOther k
       eqb-true (k .attribute) kind (both (eqb (k .attribute) kind) (not (eqb (k .attribute) classAttribute)) asked .0)
 
   -- an attribute beside the constant
-  pub value-settled : (can x y : ℕ) (r : Record) → x ≡ raise (value kind r) → y ≡ raise (constantValue kind (k .constant)) → settledOrder can k x y ≡ settled can k r
+  pub value-settled :
+      (can x y : ℕ) (r : Record) → x ≡ raise (value kind r) → y ≡ raise (constantValue kind (k .constant))
+      → settledOrder can k x y ≡ settled can k r
   value-settled can x y r e f =
       order-settled k
       (ap (λ (t : Bool). t || eqb (k .variable) (k .variable2)) (eq-eqb (k .form) 0 other-form))
@@ -187,7 +195,9 @@ module _ (k : Condition) (is : isOther bothSides k ≡ true) (few : k .attribute
   sides-own = let asked : eqb bothSides bothSides && eqb (k .variable) (k .variable2) ≡ true = rw (sides-form, otherOwn) at is in rw (sides-form, asked)
 
   -- two attributes of the event
-  pub sides-settled : (can x y : ℕ) (r : Record) → x ≡ raise (value (k .attribute) r) → y ≡ raise (value (k .attribute2) r) → settledOrder can k x y ≡ settled can k r
+  pub sides-settled :
+      (can x y : ℕ) (r : Record) → x ≡ raise (value (k .attribute) r) → y ≡ raise (value (k .attribute2) r)
+      → settledOrder can k x y ≡ settled can k r
   sides-settled can x y r e f =
       order-settled k sides-own can x y r e
       (f ∙ ap raise (sym (compared-value k r (eqb-false (k .form) 0 sides-form))))
@@ -232,7 +242,10 @@ weight-fits true v l = let m : v ≤ 16 = omega arith in omega (arith, one-mul (
 weight-fits false v l = omega (arith, zero-mul (2 ^ v))
 
 -- taken out where the test fails
-pub taken-out : (can : ℕ) (k : Condition) (x y lost : ℕ) → lost ≡ oneIf (not (meets (k .operator) (orderOf (pos x) (pos y)))) * 2 ^ k .variable → can - bitAnd can lost ≡ settledOrder can k x y
+pub taken-out :
+    (can : ℕ) (k : Condition) (x y lost : ℕ)
+    → lost ≡ oneIf (not (meets (k .operator) (orderOf (pos x) (pos y)))) * 2 ^ k .variable
+    → can - bitAnd can lost ≡ settledOrder can k x y
 unfolding settledOrder
 taken-out can k x y lost e =
     by-test (meets (k .operator) (orderOf (pos x) (pos y)))

@@ -40,7 +40,10 @@ binding-among slot (suc n) j h =
     (λ l. List·Memᴰ·tail (rest l))
     (λ l. let e : j ≡ n = omega arith in List·Memᴰ·head (ap (bindingAt slot) e))
 
-latest-of : (bytes slot : List ℕ) (i n : ℕ) → 1 ≤ n → laterThan bytes i (bindingsIn slot n) ≡ ltb (recordAt bytes (bindingAt slot (n - 1) .at) .time) (recordAt bytes i .time)
+latest-of :
+    (bytes slot : List ℕ) (i n : ℕ) → 1 ≤ n
+    → laterThan bytes i (bindingsIn slot n)
+    ≡ ltb (recordAt bytes (bindingAt slot (n - 1) .at) .time) (recordAt bytes i .time)
 unfolding laterThan bindingsIn
 latest-of bytes slot i zero h = absurd (not-suc-le-zero h)
 latest-of bytes slot i (suc n) h =
@@ -59,6 +62,9 @@ module _ (plan bytes slot : List ℕ) (i v : ℕ) where
   later-empty e = ap (λ (n : ℕ). implies (disjoint (stateIn slot) (marksIn plan v)) (laterThan bytes i (bindingsIn slot n))) e ∙ implies-yes (disjoint (stateIn slot) (marksIn plan v))
 
   -- the latest binding decides
-  pub later-latest : disjoint (stateIn slot) (marksIn plan v) ≡ true → 1 ≤ countIn slot → laterBy plan bytes i v (heldIn slot) ≡ ltb (recordAt bytes (bindingAt slot (countIn slot - 1) .at) .time) (recordAt bytes i .time)
+  pub later-latest :
+      disjoint (stateIn slot) (marksIn plan v) ≡ true → 1 ≤ countIn slot
+      → laterBy plan bytes i v (heldIn slot)
+      ≡ ltb (recordAt bytes (bindingAt slot (countIn slot - 1) .at) .time) (recordAt bytes i .time)
   unfolding laterBy heldIn
   later-latest e h = rw e (latest-of bytes slot i (countIn slot) h)

@@ -47,7 +47,9 @@ module _ (p : Pattern) (few : p .n ≤ mostVariables) (S : State) (v : ℕ) (l :
       (λ e. ap (λ (s : Bool). s && stands p which v u) e)
 
   -- all of the earlier sets is bound
-  opens-by : within (variableMask p 0 v) (mask S mostVariables) ≡ all (λ u. implies (ltb (setOf p u) (setOf p v)) (S u)) (variablesOf p)
+  opens-by :
+      within (variableMask p 0 v) (mask S mostVariables)
+      ≡ all (λ u. implies (ltb (setOf p u) (setOf p v)) (S u)) (variablesOf p)
   unfolding variableMask standing
   opens-by =
       let f : ℕ → Bool = λ u. implies (ltb (setOf p u) (setOf p v)) (S u) in
@@ -61,7 +63,10 @@ module _ (p : Pattern) (few : p .n ≤ mostVariables) (S : State) (v : ℕ) (l :
       ∙ sym (all-upto f (p .n))
 
   -- nothing of a later set is bound, and v is a group variable
-  loops-by : S v ≡ true → disjoint (mask S mostVariables) (variableMask p 1 v) ≡ isGroup p v && all (λ u. implies (ltb (setOf p v) (setOf p u)) (not (S u))) (variablesOf p)
+  loops-by :
+      S v ≡ true
+      → disjoint (mask S mostVariables) (variableMask p 1 v)
+      ≡ isGroup p v && all (λ u. implies (ltb (setOf p v) (setOf p u)) (not (S u))) (variablesOf p)
   unfolding standing
   loops-by bound =
       let f : ℕ → Bool = λ u. implies (ltb (setOf p v) (setOf p u)) (not (S u)) in
@@ -114,7 +119,11 @@ module _ (p : Pattern) (few : p .n ≤ mostVariables) (S : State) (v : ℕ) (l :
   unfolding leaves opens loops
   leaves-unbound free = rw (lt-ltb v (p .n) l, free) (opens-by ∙ sym (or-false (all (λ u. implies (ltb (setOf p u) (setOf p v)) (S u)) (variablesOf p))))
 
-  pub leaves-by : elim (bit (mask S mostVariables) v) [ true ↦ disjoint (mask S mostVariables) (variableMask p 1 v) | false ↦ within (variableMask p 0 v) (mask S mostVariables) ] ≡ leaves p S v
+  pub leaves-by :
+      elim (bit (mask S mostVariables) v) [
+        | true ↦ disjoint (mask S mostVariables) (variableMask p 1 v)
+        | false ↦ within (variableMask p 0 v) (mask S mostVariables)
+      ] ≡ leaves p S v
   leaves-by =
       let b = mask-inside S mostVariables v (omega arith) in
       by-test (S v) (λ e. rw (b, e) (leaves-bound e)) (λ e. rw (b, e) (leaves-unbound e))

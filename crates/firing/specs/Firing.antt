@@ -1,6 +1,6 @@
--- Whether the step on v fires for a held reading at record i, in the parts that a pass settles one by one: what record i
--- alone decides, once a record; then, for each reading, whether v leaves its state, the order mark, and the conditions
--- that join v to what is bound.
+-- Whether the step on v fires for a held reading at record i (rule 5.2), in the parts that a pass settles one by one:
+-- what record i alone decides, once a record; then, for each reading, whether v leaves its state, the order mark, and
+-- the conditions that join v to what is bound.
 use mathlib.Core.Path.{_≡_}
 use mathlib.Core.Bool.{Bool, true, false, _&&_, _||_}
 use mathlib.Core.List.{List, [], _∷_, List·Memᴰ}
@@ -20,7 +20,8 @@ use Rattle.automaton.specs.Filtering.{implies, all}
 use Rattle.rule.specs.Rule.{Binding, Reading, lastOf}
 use Rattle.rule.specs.Promises.{mostBindings}
 use Rattle.slots.specs.Slots.{Held, slotBytes, countIn, stateIn, bindingsIn}
-use Rattle.firing.specs.Plan.{isOwn, isOnClass, isOther, conditionIn, beforeIn, afterIn, marksIn, joinsIn, Sound, Classed}
+use Rattle.firing.specs.Plan.{isOwn, isOnClass, isOther, conditionIn}
+use Rattle.firing.specs.Plan.{beforeIn, afterIn, marksIn, joinsIn, Sound, Classed}
 
 -- ## Once a record
 
@@ -123,7 +124,7 @@ pairMeets bytes x v k b =
 unfoldable pub joinHolds : List ℕ → List ℕ → ℕ → ℕ → Reading → ℕ → Bool
 joinHolds plan bytes i v r k = implies (bit (joinsIn plan v) k) (all (pairHolds bytes i v (conditionIn plan k)) r)
 
--- every combination
+-- every pair of a condition that joins v and a binding
 unfoldable pub joinsBy : List ℕ → List ℕ → ℕ → ℕ → Reading → Bool
 joinsBy plan bytes i v r = every (joinHolds plan bytes i v r) mostConditions
 

@@ -1,7 +1,7 @@
--- What a pass prepares once a call: a plan, 102 numbers of 64 bits made of the checked pattern. The first 32 are the
--- conditions as document 01 packs them, with what orders fail them among the zeros; behind them stand four masks for each
--- variable, then for each 16 event types the variables whose conditions on class hold of them, and last, by kind, the
--- conditions that each event has yet to be asked.
+-- What a pass prepares once a call: a plan, numbers of 64 bits made of the checked pattern. First stand the conditions
+-- in the bits of rule 2.3, with what orders fail them among the zeros; behind them four masks for each variable, then
+-- for each 16 event types the variables whose conditions on class hold of them, and last, by kind, the conditions that
+-- each event has yet to be asked.
 use mathlib.Core.Path.{_≡_}
 use mathlib.Core.Bool.{Bool, true, false, not, _&&_, _||_}
 use mathlib.Core.List.{List}
@@ -15,23 +15,19 @@ use Rattle.patterns.specs.declared.Condition.{Condition}
 use Rattle.patterns.specs.declared.Pattern.{Pattern}
 use Rattle.patterns.specs.Patterns.{mostVariables, mostConditions, lastAttribute, lastOperator, conditionOf}
 use Rattle.patterns.specs.Checked.{filled, conditionAt, setOf, isGroup}
-use Rattle.patterns.specs.Comparison.{meets, holds}
+use Rattle.patterns.specs.Comparison.{orders, meets, holds}
 use Rattle.automaton.specs.Filtering.{implies}
-
-abbrev pub planRoom : ℕ
-planRoom = 102
 
 -- ## The conditions
 
 -- the orders that fail an operator, bit o for order o
 unfoldable pub failingOf : ℕ → ℕ
-failingOf operator = mask (λ order. not (meets operator order)) 3
+failingOf operator = mask (λ order. not (meets operator order)) orders
 
 abbrev pub firstOrder : ℕ
 firstOrder = 43
 
--- variable 4, attribute 3, operator 3, form 1, second variable 4, second attribute 3, the orders that fail the operator 3,
--- zero 11, constant 32
+-- the fields of rule 2.3 at their bits, and the orders that fail the operator in the highest three of the 14 zeros
 unfoldable pub wordOf : Condition → ℕ
 wordOf k =
     k .variable * 2 ^ 60
@@ -45,7 +41,9 @@ wordOf k =
 
 -- 64 bits that tell of each order whether it fails their condition's operator
 pub record Tells (word : ℕ) : Type 0 where
-  pub order : (o : ℕ) → o < 3 → word / 2 ^ (firstOrder + o) % 2 ≡ oneIf (not (meets (conditionOf word .operator) o))
+  pub order :
+      (o : ℕ) → o < orders
+      → word / 2 ^ (firstOrder + o) % 2 ≡ oneIf (not (meets (conditionOf word .operator) o))
 
 -- the 64 bits of condition k, which give it back
 pub record IsWord (k : Condition) (word : ℕ) : Type 0 where
@@ -74,9 +72,10 @@ isJoin v k = joins v (k .form) (k .variable) (k .variable2)
 
 -- which variables stand in a mask: v's set, the variable's set, whether it is v, and whether v is a group variable
 -- 0: what must be bound before v opens, the variables of earlier sets
--- 1: what must be unbound for v's loop, the variables of later sets; and v itself where it is no group variable, so that
---    it never loops
--- 2: the order mark stands where none of v's own set is bound; where that set is the first, where nothing is bound at all
+-- 1: what must be unbound for v's loop, the variables of later sets; and v itself where it is no group variable, so
+--    that it never loops
+-- 2: the order mark stands where none of v's own set is bound; where that set is the first, where nothing is bound at
+--    all
 unfoldable pub standing : ℕ → ℕ → ℕ → Bool → Bool → Bool
 standing which own set same group =
     elim (eqb which 0) [
@@ -107,12 +106,12 @@ onClass form attribute = eqb form 0 && eqb attribute classAttribute
 abbrev pub isOnClass : Condition → Bool
 isOnClass k = onClass (k .form) (k .attribute)
 
--- the kind of the conditions with one variable on both sides
+-- the kind of the conditions with one variable on both sides; below it each attribute is a kind
 abbrev pub bothSides : ℕ
-bothSides = 5
+bothSides = lastAttribute + 1
 
--- any other condition that looks at one event alone, by kind: of form 0 the attribute, but for class; else one variable on
--- both sides
+-- any other condition that looks at one event alone, by kind: of form 0 the attribute, but for class; else one variable
+-- on both sides
 unfoldable pub otherOwn : ℕ → ℕ → ℕ → ℕ → ℕ → Bool
 otherOwn kind form variable variable2 attribute =
     elim (eqb form 0) [
@@ -128,7 +127,7 @@ abbrev pub typesTogether : ℕ
 typesTogether = 16
 
 abbrev pub typePlaces : ℕ
-typePlaces = 16
+typePlaces = 256 / typesTogether
 
 -- an event of the first of them
 unfoldable pub sampleOf : ℕ → Record
@@ -158,20 +157,23 @@ otherMask condition c kind = mask (λ i. isOther kind (condition i)) c
 -- ## The plan
 
 abbrev pub firstMask : ℕ
-firstMask = 32
+firstMask = mostConditions
 
 -- the masks 0 to 2 of v
 abbrev pub maskPlace : ℕ → ℕ → ℕ
 maskPlace which v = firstMask + mostVariables * which + v
 
 abbrev pub firstJoins : ℕ
-firstJoins = 68
+firstJoins = firstMask + 3 * mostVariables
 
 abbrev pub firstClass : ℕ
-firstClass = 80
+firstClass = firstJoins + mostVariables
 
 abbrev pub othersPlace : ℕ
-othersPlace = 96
+othersPlace = firstClass + typePlaces
+
+abbrev pub planRoom : ℕ
+planRoom = othersPlace + bothSides + 1
 
 unfoldable pub placeOf : Pattern → ℕ → ℕ
 placeOf p place =

@@ -1,5 +1,5 @@
-// Whether a step fires, in the parts that a pass settles one by one: a plan with the conditions on class once a call, the
-// new event's other own conditions once a record, the rest once a reading.
+// Whether a step fires (Rule 5.2), in the parts that a pass settles one by one: a plan with the conditions on class
+// once a call, the new event's other own conditions once a record, the rest once a reading.
 ghost use mathlib.Core.Path.{_≡_};
 ghost use mathlib.Core.Bool.{true, false, not, _||_};
 ghost use Prim.Native.Nat.{_+_, _-_, _*_, _/_, _%_, _^_, _<_, _≤_};
@@ -13,21 +13,19 @@ ghost use Rattle.patterns.specs.Patterns.{mostVariables, mostConditions, lastOp
 ghost use Rattle.patterns.specs.Checked.{InOrder, conditionAt};
 ghost use Rattle.patterns.specs.Comparison.{value, orderOf, meets, raise};
 ghost use Rattle.slots.specs.Slots.{bindingOf, bindingsIn, countIn, heldIn};
-ghost use Rattle.firing.specs.Plan.{planRoom, joins, standing, variableMask, joinMask, onClass, failingOf, bothSides, otherOwn, sampleOf, typePlaces, classMask, otherMask, Tells, IsWord, Placed, IsPlan, Sound, Classed};
-ghost use Rattle.firing.specs.Firing.{settled, settledOnClass, settledOrder, valuesOf, settledBy, Settling, canBy, leavesBy, laterBy, otherOf, sideOf, pairMeets, joinsBy, agreesBy, Fit};
+ghost use Rattle.firing.specs.Plan.{planRoom, joins, standing, variableMask, joinMask, onClass, failingOf};
+ghost use Rattle.firing.specs.Plan.{bothSides, otherOwn, sampleOf, typePlaces, classMask, otherMask};
+ghost use Rattle.firing.specs.Plan.{Tells, IsWord, Placed, IsPlan, Sound, Classed};
+ghost use Rattle.firing.specs.Firing.{settled, settledOnClass, settledOrder, valuesOf, settledBy, Settling};
+ghost use Rattle.firing.specs.Firing.{canBy, leavesBy, laterBy, otherOf, sideOf, pairMeets, joinsBy, agreesBy};
+ghost use Rattle.firing.specs.Firing.{Fit};
 use patterns::Condition;
 use patterns::Pattern;
 use records::Record;
 
 // ## The plan
 
-const PLAN_ROOM: usize = 102;
-
-const MOST_VARIABLES: usize = 12;
-
-const RECORD_BYTES: usize = 16;
-
-// The attributes.
+// The attributes, by their numbers (Rule 3.1).
 const CORE: u8 = 0;
 
 const TYPE: u8 = 1;
@@ -38,31 +36,40 @@ const SLOT: u8 = 3;
 
 const AMOUNT: u8 = 4;
 
-// The kind of the conditions with one variable on both sides; below it each attribute is the kind of those that compare it
-// with the constant.
-const BOTH_SIDES: u8 = 5;
+const ATTRIBUTES: usize = AMOUNT as usize + 1;
 
-// Where a condition's 64 bits tell which orders fail its operator.
+// The kind of the conditions with one variable on both sides; below it each attribute is the kind of those that compare
+// it with the constant.
+const BOTH_SIDES: u8 = AMOUNT + 1;
+
+// Where a condition's 64 bits tell which orders fail its operator: three of the bits that Rule 2.3 has as 0.
 const FIRST_ORDER: usize = 43;
 
+const ORDERS_WEIGHT: u64 = 1 << FIRST_ORDER;
+
 // What stands where there is no condition: the operator =, which less and greater fail.
-const NO_CONDITION: u64 = 43980465111040;
+const NO_CONDITION: u64 = 5 * ORDERS_WEIGHT;
 
 // How many event types one after the other share a place of the plan: all of them are of one class.
 const TYPES_TOGETHER: usize = 16;
 
+const TYPE_PLACES: usize = 256 / TYPES_TOGETHER;
+
 // Where the masks stand: before, after and marks for each variable, then joins; those by class; the others by kind.
-const FIRST_MASK: usize = 32;
+const FIRST_MASK: usize = patterns::MOST_CONDITIONS;
 
-const FIRST_AFTER: usize = 44;
+const FIRST_AFTER: usize = FIRST_MASK + patterns::MOST_VARIABLES;
 
-const FIRST_MARKS: usize = 56;
+const FIRST_MARKS: usize = FIRST_AFTER + patterns::MOST_VARIABLES;
 
-const FIRST_JOINS: usize = 68;
+const FIRST_JOINS: usize = FIRST_MARKS + patterns::MOST_VARIABLES;
 
-const FIRST_CLASS: usize = 80;
+const FIRST_CLASS: usize = FIRST_JOINS + patterns::MOST_VARIABLES;
 
-const OTHERS: usize = 96;
+const OTHERS: usize = FIRST_CLASS + TYPE_PLACES;
+
+// How many numbers a plan has.
+pub const PLAN_ROOM: usize = OTHERS + BOTH_SIDES as usize + 1;
 
 // Which orders fail an operator, a bit for each.
 fn failing(operator: u8) -> u64
@@ -71,7 +78,7 @@ fn failing(operator: u8) -> u64
 {
     let mut bits: u64 = 0;
     let mut o = 0;
-    while o < 3 {
+    while o < patterns::ORDERS {
         bits = bits + numbers::weight_if(!patterns::order_meets(operator as usize, o), o);
         o += 1;
     }
@@ -79,21 +86,14 @@ fn failing(operator: u8) -> u64
 }
 
 // A condition as its 64 bits, which tell the orders that fail its operator too.
-fn word_of(
-    variable: u8,
-    attribute: u8,
-    operator: u8,
-    form: u8,
-    variable2: u8,
-    attribute2: u8,
-    constant: u32,
-) -> u64
-    requires { ⌜ (variable < 16) × (attribute < 8) × (operator ≤ lastOperator) × (form < 2) × (variable2 < 16) × (attribute2 < 8) ⌝ }
-    ensures { λ r. ⌜ IsWord (record { variable = variable; attribute = attribute; operator = operator; form = form; variable2 = variable2; attribute2 = attribute2; constant = constant }) r ⌝ }
+fn word_of(k: Condition) -> u64
+    requires { ⌜ (k .variable < 16) × (k .attribute < 8) × (k .operator ≤ lastOperator) × (k .form < 2)
+        × (k .variable2 < 16) × (k .attribute2 < 8) ⌝ }
+    ensures { λ r. ⌜ IsWord k r ⌝ }
 {
-    let first = (variable as u64 * 8 + attribute as u64) * 8 + operator as u64;
-    let second = ((first * 2 + form as u64) * 16 + variable2 as u64) * 8 + attribute2 as u64;
-    (second * 8 + failing(operator)) * 8796093022208 + constant as u64
+    let first = (k.variable as u64 * 8 + k.attribute as u64) * 8 + k.operator as u64;
+    let second = ((first * 2 + k.form as u64) * 16 + k.variable2 as u64) * 8 + k.attribute2 as u64;
+    (second * 8 + failing(k.operator)) * ORDERS_WEIGHT + k.constant as u64
 }
 
 // Condition i as its 64 bits.
@@ -101,15 +101,15 @@ fn word_at(p: Pattern, i: usize) -> u64
     requires { ⌜ InOrder p × (i < p .c) ⌝ }
     ensures { λ r. ⌜ IsWord (conditionAt p i) r ⌝ }
 {
-    word_of(
-        p.variables[i],
-        p.attributes[i],
-        p.operators[i],
-        p.forms[i],
-        p.variables2[i],
-        p.attributes2[i],
-        p.constants[i],
-    )
+    word_of(Condition {
+        variable: p.variables[i],
+        attribute: p.attributes[i],
+        operator: p.operators[i],
+        form: p.forms[i],
+        variable2: p.variables2[i],
+        attribute2: p.attributes2[i],
+        constant: p.constants[i],
+    })
 }
 
 // Whether a variable stands in one of the masks of another: 0 before, 1 after, 2 marks.
@@ -318,7 +318,11 @@ fn place(p: Pattern, at: usize) -> u64
     }
     if at < FIRST_JOINS {
         let beyond = at - FIRST_MASK;
-        return variable_mask(p, beyond / MOST_VARIABLES, beyond % MOST_VARIABLES);
+        return variable_mask(
+            p,
+            beyond / patterns::MOST_VARIABLES,
+            beyond % patterns::MOST_VARIABLES,
+        );
     }
     if at < FIRST_CLASS {
         return join_mask(p, at - FIRST_JOINS);
@@ -330,11 +334,11 @@ fn place(p: Pattern, at: usize) -> u64
 }
 
 // What a pass prepares once a call.
-pub fn plan_of(p: Pattern) -> [u64; 102]
+pub fn plan_of(p: Pattern) -> [u64; PLAN_ROOM]
     requires { ⌜ InOrder p ⌝ }
     ensures { λ r. ⌜ IsPlan p r ⌝ }
 {
-    let mut plan = [0u64; 102];
+    let mut plan = [0u64; PLAN_ROOM];
     let mut at = 0;
     while at < PLAN_ROOM {
         plan[at] = place(p, at);
@@ -345,7 +349,8 @@ pub fn plan_of(p: Pattern) -> [u64; 102]
 
 // ## Once a record
 
-// 1 where x does not stand to y as the operator of a condition's 64 bits says, else 0.
+// 1 where x does not stand to y as the operator of a condition's 64 bits says, else 0. The bit looked up is an entry of
+// the table of operators (Rule 3.2), which `failing` took out of it once a call.
 fn fails(word: u64, x: u64, y: u64) -> u64
     requires { ⌜ Tells word ⌝ }
     ensures { λ r. ⌜ r ≡ oneIf (not (meets (conditionOf word .operator) (orderOf (pos x) (pos y)))) ⌝ }
@@ -365,7 +370,7 @@ fn settle_order(can: u64, word: u64, x: u64, y: u64) -> u64
 
 // The variables of the mask whose conditions that compare an attribute with the constant hold of record i.
 fn settle_attribute(
-    plan: &[u64; 102],
+    plan: &[u64; PLAN_ROOM],
     n: usize,
     c: usize,
     can: u64,
@@ -398,7 +403,7 @@ fn settle_attribute(
 }
 
 // The five attributes of record i, raised.
-fn values_of(block: &[u8], i: usize) -> [u64; 5]
+fn values_of(block: &[u8], i: usize) -> [u64; ATTRIBUTES]
     requires { ⌜ recordBytes * i + recordBytes ≤ length (now block) ⌝ }
     ensures { λ r. ⌜ r ≡ valuesOf (recordAt (now (block .entry)) i) ⌝ }
 {
@@ -413,7 +418,7 @@ fn values_of(block: &[u8], i: usize) -> [u64; 5]
 }
 
 // The variables of the mask whose conditions with one variable on both sides hold of record i.
-fn settle_both(plan: &[u64; 102], n: usize, c: usize, can: u64, block: &[u8], i: usize) -> u64
+fn settle_both(plan: &[u64; PLAN_ROOM], n: usize, c: usize, can: u64, block: &[u8], i: usize) -> u64
     requires { ⌜ Settling (now plan) n c can (now block) i ⌝ }
     ensures { λ r. ⌜ r ≡ settledBy (now (plan .entry)) n c (now (block .entry)) i bothSides can ⌝ }
 {
@@ -434,13 +439,15 @@ fn settle_both(plan: &[u64; 102], n: usize, c: usize, can: u64, block: &[u8], i:
     left
 }
 
-// The variables whose own conditions hold of record i, by the plan of a pattern of n variables and c conditions. The plan
-// has settled those on class; the others are settled here, kind by kind.
-pub fn can_fire(plan: &[u64; 102], n: usize, c: usize, block: &[u8], i: usize) -> u64
-    requires { ⌜ Sound (now plan) × Classed (now plan) n c × (n ≤ mostVariables) × (c ≤ mostConditions) × (recordBytes * i + recordBytes ≤ length (now block)) ⌝ }
+// The variables whose own conditions hold of record i, by the plan of a pattern of n variables and c conditions. The
+// plan has settled those on class, with the class that `records::class` gives for the types of a place (Rule 1.4); the
+// others are settled here, kind by kind.
+pub fn can_fire(plan: &[u64; PLAN_ROOM], n: usize, c: usize, block: &[u8], i: usize) -> u64
+    requires { ⌜ Sound (now plan) × Classed (now plan) n c × (n ≤ mostVariables) × (c ≤ mostConditions)
+        × (recordBytes * i + recordBytes ≤ length (now block)) ⌝ }
     ensures { λ r. ⌜ (r ≡ canBy (now (plan .entry)) n c (now (block .entry)) i) × (r < 2 ^ n) ⌝ }
 {
-    let event_type = numbers::byte(block, RECORD_BYTES * i + 1) as usize;
+    let event_type = numbers::byte(block, records::RECORD_BYTES * i + 1) as usize;
     let by_class = plan[FIRST_CLASS + event_type / TYPES_TOGETHER];
     let by_type = settle_attribute(plan, n, c, by_class, TYPE, block, i);
     if by_type == 0 {
@@ -455,7 +462,7 @@ pub fn can_fire(plan: &[u64; 102], n: usize, c: usize, block: &[u8], i: usize) -
 // ## Once a reading
 
 // Whether v leaves the state: it loops, or it opens.
-pub fn leaves(plan: &[u64; 102], state: u64, v: usize) -> bool
+pub fn leaves(plan: &[u64; PLAN_ROOM], state: u64, v: usize) -> bool
     requires { ⌜ (length (now plan) ≡ planRoom) × (v < mostVariables) ⌝ }
     ensures { λ r. ⌜ r ≡ leavesBy (now (plan .entry)) state v ⌝ }
 {
@@ -465,8 +472,8 @@ pub fn leaves(plan: &[u64; 102], state: u64, v: usize) -> bool
     numbers::is_within(plan[FIRST_MASK + v], state)
 }
 
-// Whether record i is later than everything bound, where the order mark asks it.
-pub fn is_later(plan: &[u64; 102], block: &[u8], i: usize, v: usize, slot: &[u8]) -> bool
+// Whether record i is late enough where the step on v has the order mark (Rule 4.3).
+pub fn is_later(plan: &[u64; PLAN_ROOM], block: &[u8], i: usize, v: usize, slot: &[u8]) -> bool
     requires { ⌜ Fit (now plan) (now block) i (now slot) × (v < mostVariables) ⌝ }
     ensures { λ r. ⌜ r ≡ laterBy (now (plan .entry)) (now (block .entry)) i v (heldIn (now (slot .entry))) ⌝ }
 {
@@ -513,7 +520,8 @@ fn pair_holds(
     v: usize,
     x: u64,
 ) -> bool
-    requires { ⌜ Tells word × (k ≡ conditionOf word) × (4 + 2 * j + 2 ≤ length (now slot)) × (recordBytes * (number (now slot) (4 + 2 * j) 2 % 2 ^ 12) + recordBytes ≤ length (now block)) ⌝ }
+    requires { ⌜ Tells word × (k ≡ conditionOf word) × (4 + 2 * j + 2 ≤ length (now slot))
+        × (recordBytes * (number (now slot) (4 + 2 * j) 2 % 2 ^ 12) + recordBytes ≤ length (now block)) ⌝ }
     ensures { λ r. ⌜ r ≡ pairMeets (now (block .entry)) x v k (bindingOf (number (now (slot .entry)) (4 + 2 * j) 2)) ⌝ }
 {
     let u = slots::binding_variable(slot, j);
@@ -532,11 +540,12 @@ fn pair_holds(
     fails(word, y, x) == 0
 }
 
-// Whether every condition that joins v holds of record i with each earlier binding of the other variable. Every
-// combination is tested, and the first that fails settles it.
-pub fn joins_hold(plan: &[u64; 102], block: &[u8], i: usize, v: usize, slot: &[u8]) -> bool
+// Whether every condition that joins v holds of record i with each earlier binding of the other variable: all pairs are
+// asked (Rule 5.3), until one fails.
+pub fn joins_hold(plan: &[u64; PLAN_ROOM], block: &[u8], i: usize, v: usize, slot: &[u8]) -> bool
     requires { ⌜ Fit (now plan) (now block) i (now slot) × (v < mostVariables) ⌝ }
-    ensures { λ r. ⌜ r ≡ joinsBy (now (plan .entry)) (now (block .entry)) i v (bindingsIn (now (slot .entry)) (countIn (now (slot .entry)))) ⌝ }
+    ensures { λ r. ⌜ r ≡ joinsBy (now (plan .entry)) (now (block .entry)) i v
+        (bindingsIn (now (slot .entry)) (countIn (now (slot .entry)))) ⌝ }
 {
     let mut rest = plan[FIRST_JOINS + v];
     if rest == 0 {
@@ -567,7 +576,7 @@ pub fn joins_hold(plan: &[u64; 102], block: &[u8], i: usize, v: usize, slot: &[u
 }
 
 // Whether record i meets the order mark and every condition that joins v, for the slot's reading.
-pub fn agrees(plan: &[u64; 102], block: &[u8], i: usize, v: usize, slot: &[u8]) -> bool
+pub fn agrees(plan: &[u64; PLAN_ROOM], block: &[u8], i: usize, v: usize, slot: &[u8]) -> bool
     requires { ⌜ Fit (now plan) (now block) i (now slot) × (v < mostVariables) ⌝ }
     ensures { λ r. ⌜ r ≡ agreesBy (now (plan .entry)) (now (block .entry)) i v (heldIn (now (slot .entry))) ⌝ }
 {

@@ -20,6 +20,7 @@ ghost use Rattle.forward.specs.Live.{oneBy, firedBy, extendBy, firstBy, 
 ghost use Rattle.forward.specs.Memory.{stepBound, Apart, Added, Ready, Begun, firstInTime, goneBy, Stands, Moved};
 ghost use Rattle.forward.specs.Lines.{Wrote};
 ghost use Rattle.forward.specs.Passes.{Prepared, Ran, Finished, limitBroken};
+use firing::PLAN_ROOM;
 use patterns::Pattern;
 use records::Answer;
 use records::RECORD_BYTES;
@@ -245,7 +246,7 @@ fn emit_grown(
 // Puts out the extension of the reading at `from` by one variable whose own conditions hold, if it fires.
 fn try_one(
     work: &mut [u8],
-    plan: &[u64; 102],
+    plan: &[u64; PLAN_ROOM],
     block: &[u8],
     i: usize,
     v: usize,
@@ -270,7 +271,7 @@ fn try_one(
 // Puts out the extensions of the reading at `from` by each variable of `can` that fires, the smallest first.
 fn spread(
     work: &mut [u8],
-    plan: &[u64; 102],
+    plan: &[u64; PLAN_ROOM],
     block: &[u8],
     i: usize,
     can: u64,
@@ -295,7 +296,7 @@ fn spread(
 // Puts out what the live reading at `from` becomes: its extensions, or itself where there are none.
 fn extend_one(
     work: &mut [u8],
-    plan: &[u64; 102],
+    plan: &[u64; PLAN_ROOM],
     block: &[u8],
     i: usize,
     can: u64,
@@ -322,7 +323,7 @@ fn extend_one(
 // is all that it is asked.
 fn begin_one(
     work: &mut [u8],
-    plan: &[u64; 102],
+    plan: &[u64; PLAN_ROOM],
     i: usize,
     v: usize,
     dst: usize,
@@ -342,7 +343,7 @@ fn begin_one(
 // Puts out the readings that begin with each variable of `can` that fires, the smallest first.
 fn begin(
     work: &mut [u8],
-    plan: &[u64; 102],
+    plan: &[u64; PLAN_ROOM],
     i: usize,
     can: u64,
     dst: usize,
@@ -365,7 +366,7 @@ fn begin(
 // The live readings from src on, count of them, are replaced by what they become at event i, then those that begin.
 fn advance(
     work: &mut [u8],
-    plan: &[u64; 102],
+    plan: &[u64; PLAN_ROOM],
     block: &[u8],
     i: usize,
     can: u64,
@@ -400,7 +401,7 @@ pub struct Stand {
 // The live readings after record i. Where no variable can fire nothing moves.
 fn move_on(
     work: &mut [u8],
-    plan: &[u64; 102],
+    plan: &[u64; PLAN_ROOM],
     block: &[u8],
     i: usize,
     can: u64,
@@ -448,7 +449,7 @@ fn without(stand: Stand, gone: usize) -> Stand
 }
 
 // The variables whose own conditions hold of record i, if it is an event.
-fn can_at(plan: &[u64; 102], block: &[u8], i: usize, n: usize, c: usize) -> u64
+fn can_at(plan: &[u64; PLAN_ROOM], block: &[u8], i: usize, n: usize, c: usize) -> u64
     requires { ⌜ Sound (now plan) × Classed (now plan) n c × (n ≤ mostVariables) × (c ≤ mostConditions) × (recordBytes * i + recordBytes ≤ length (now block)) ⌝ }
     ensures { λ r. ⌜ (r ≡ canAt (now (plan .entry)) n c (now (block .entry)) i) × (r < 2 ^ mostVariables) ⌝ }
 {
@@ -472,7 +473,7 @@ fn most(a: usize, b: usize) -> usize
 // The pass over a checked block: its answer, and what it reports in the result.
 fn pass(
     p: Pattern,
-    plan: &[u64; 102],
+    plan: &[u64; PLAN_ROOM],
     block: &[u8],
     limit: usize,
     work: &mut [u8],

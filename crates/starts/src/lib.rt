@@ -123,7 +123,12 @@ fn no_cans() -> [u16; records::MOST_RECORDS]
 }
 
 // For each record the variables that can fire there by its own conditions, settled once a call and not once a reading.
-fn all_can(plan: &[u64; 102], n: usize, c: usize, block: &[u8]) -> [u16; records::MOST_RECORDS]
+fn all_can(
+    plan: &[u64; firing::PLAN_ROOM],
+    n: usize,
+    c: usize,
+    block: &[u8],
+) -> [u16; records::MOST_RECORDS]
     requires { ⌜ Usable (now plan) (now block) n c ⌝ }
     ensures { λ r. ⌜ Cans (now (plan .entry)) (now (block .entry)) n c r ⌝ }
 {
@@ -138,7 +143,7 @@ fn all_can(plan: &[u64; 102], n: usize, c: usize, block: &[u8]) -> [u16; records
 }
 
 // The variables that leave a state.
-fn leaving(plan: &[u64; 102], n: usize, state: u64) -> u64
+fn leaving(plan: &[u64; firing::PLAN_ROOM], n: usize, state: u64) -> u64
     requires { ⌜ (length (now plan) ≡ planRoom) × (n ≤ mostVariables) ⌝ }
     ensures { λ r. ⌜ r ≡ leavingBy (now (plan .entry)) n state ⌝ }
 {
@@ -152,7 +157,13 @@ fn leaving(plan: &[u64; 102], n: usize, state: u64) -> u64
 }
 
 // Of the variables asked, which can fire at record i and leave the reading's state, those that fire.
-fn firing_of(block: &[u8], plan: &[u64; 102], i: usize, asked: u64, slot: &[u8]) -> u64
+fn firing_of(
+    block: &[u8],
+    plan: &[u64; firing::PLAN_ROOM],
+    i: usize,
+    asked: u64,
+    slot: &[u8],
+) -> u64
     requires { ⌜ (asked < 2 ^ mostVariables) × Fit (now plan) (now block) i (now slot) ⌝ }
     ensures { λ r. ⌜ r ≡ agreeingBy (now (plan .entry)) (now (block .entry)) i asked (heldIn (now (slot .entry))) ⌝ }
 {
@@ -174,7 +185,7 @@ fn firing_of(block: &[u8], plan: &[u64; 102], i: usize, asked: u64, slot: &[u8])
 // Skips to the next record from j on that fires; to the record at which the reading closes, where none does.
 fn next_fire(
     block: &[u8],
-    plan: &[u64; 102],
+    plan: &[u64; firing::PLAN_ROOM],
     cans: &[u16; records::MOST_RECORDS],
     s: Start,
     j: usize,
@@ -209,7 +220,7 @@ fn next_fire(
 // From a reading that binds variable v to record j too: on to the next record that fires.
 fn skip(
     block: &[u8],
-    plan: &[u64; 102],
+    plan: &[u64; firing::PLAN_ROOM],
     cans: &[u16; records::MOST_RECORDS],
     slot: slots::Slot,
     j: usize,
@@ -246,7 +257,7 @@ fn skip(
 // At record j, each of the firing variables in turn.
 fn branch(
     block: &[u8],
-    plan: &[u64; 102],
+    plan: &[u64; firing::PLAN_ROOM],
     cans: &[u16; records::MOST_RECORDS],
     slot: slots::Slot,
     j: usize,
@@ -327,7 +338,7 @@ fn start_at(block: &[u8], n: usize, c: usize, duration: u64, i: usize, opened: u
 // Readings of a later start close no earlier, so each search for the record that closes goes on where the last one ended.
 fn each_start(
     block: &[u8],
-    plan: &[u64; 102],
+    plan: &[u64; firing::PLAN_ROOM],
     n: usize,
     c: usize,
     duration: u64,

@@ -36,7 +36,7 @@ settle-attribute-requires c κs =
     let st = c .before .before .before in
     let a = st .args in
     let p = st .pre in
-    let inside = class-inside (a .plan .now) (a .block .now) (a .i) (a .n) (a .c) (p .1) (c .before .byte .result / 16) (omega arith) in
+    let inside = class-inside (a .plan .now) (a .block .now) (a .i) (a .n) (a .c) (p .1) (c .before .byte .result / typesTogether) (omega arith) in
     (record { sound = p .0; classed = p .1; variables = p .2; conditions = p .3; inside = inside; here = p .4 }, omega arith)
 
 returns : tie.Need-returns

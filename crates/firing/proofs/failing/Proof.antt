@@ -1,4 +1,5 @@
--- `firing::failing` meets its contract. The loop's invariant: the bits are the mask of the orders passed. Assumes nothing.
+-- `firing::failing` meets its contract. The loop's invariant: the bits are the mask of the orders passed.
+-- Assumes nothing.
 use mathlib.Core.Path.{_≡_, _∙_, sym, ap}
 use mathlib.Core.Bool.{Bool, not}
 use Prim.Native.Nat.{ℕ, _-_, _≤_}
@@ -6,7 +7,7 @@ use native.Mathlib.Omega.{arith}
 use borrow.Author.Needs.{needs}
 use Rattle.numbers.specs.Bits.{mask}
 use Rattle.numbers.proofs.Bits.{mask-none}
-use Rattle.patterns.specs.Comparison.{meets}
+use Rattle.patterns.specs.Comparison.{orders, meets}
 use Rattle.firing.specs.Plan.{failingOf}
 use Rattle.firing.proofs.Masks.{mask-turn, mask-fits}
 use Rattle.firing.proofs.failing.Statement.{statement}
@@ -16,10 +17,10 @@ abbrev fail : ℕ → ℕ → Bool
 fail operator order = not (meets operator order)
 
 abbrev Inv-loop : tie.InvT-loop
-Inv-loop operator bits₀ o₀ bits o = (o ≤ 3) × (bits ≡ mask (fail operator) o)
+Inv-loop operator bits₀ o₀ bits o = (o ≤ orders) × (bits ≡ mask (fail operator) o)
 
 abbrev μ-loop : tie.MeasureT-loop
-μ-loop operator bits₀ o₀ bits o = 3 - o
+μ-loop operator bits₀ o₀ bits o = orders - o
 
 loop-holds : tie.Need-loop-holds Inv-loop μ-loop
 loop-holds c = (search needs, sym (mask-none _))
@@ -53,7 +54,7 @@ loop-again c =
 returns : tie.Need-returns Inv-loop μ-loop
 unfolding failingOf
 returns c =
-    let e : c .before .loop .o ≡ 3 = omega arith in
+    let e : c .before .loop .o ≡ orders = omega arith in
     c .before .loop .inv .1 ∙ ap (mask (fail (c .before .before .args .operator))) e
 
 pub failing-spec : {M : Type 1} → statement M

@@ -1,5 +1,5 @@
--- `firing::is_later` meets its contract: there is no order mark, nothing is bound, or the latest binding decides. Assumes
--- nothing.
+-- `firing::is_later` meets its contract: there is no order mark, nothing is bound, or the latest binding decides.
+-- Assumes nothing.
 use mathlib.Core.Path.{_≡_, _∙_, sym, ap, ap₂}
 use mathlib.Core.Bool.{true, false}
 use Prim.Native.Nat.{ℕ, _-_, _≤_, _<_}

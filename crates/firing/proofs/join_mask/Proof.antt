@@ -8,6 +8,7 @@ use borrow.Author.Needs.{needs}
 use Rattle.numbers.specs.Bits.{mask}
 use Rattle.numbers.proofs.Bits.{mask-none}
 use Rattle.patterns.specs.declared.Pattern.{Pattern}
+use Rattle.patterns.specs.Patterns.{mostConditions}
 use Rattle.patterns.specs.Checked.{conditionAt}
 use Rattle.firing.specs.Plan.{isJoin, joinMask}
 use Rattle.firing.proofs.Masks.{mask-turn, mask-fits}
@@ -18,7 +19,7 @@ abbrev joining : Pattern → ℕ → ℕ → Bool
 joining p v i = isJoin v (conditionAt p i)
 
 abbrev Inv-loop : tie.InvT-loop
-Inv-loop v p c bits₀ i₀ bits i = (i ≤ c) × (c ≤ 32) × (bits ≡ mask (joining p v) i)
+Inv-loop v p c bits₀ i₀ bits i = (i ≤ c) × (c ≤ mostConditions) × (bits ≡ mask (joining p v) i)
 
 abbrev μ-loop : tie.MeasureT-loop
 μ-loop v p c bits₀ i₀ bits i = c - i

@@ -1,5 +1,5 @@
--- `firing::joins_hold` meets its contract. The outer loop's invariant: the conditions whose bits are left are to be tested,
--- and all others hold. The inner loop's: the condition holds with each binding passed. Assumes nothing.
+-- `firing::joins_hold` meets its contract. The outer loop's invariant: the conditions whose bits are left are to be
+-- tested, and all others hold. The inner loop's: the condition holds with each binding passed. Assumes nothing.
 use mathlib.Core.Path.{_≡_, _∙_, refl, sym, ap, subst}
 use mathlib.Core.Bool.{true, false}
 use Prim.Native.Nat.{ℕ, _-_, _≤_, _<_}
@@ -16,7 +16,9 @@ use Rattle.firing.specs.Plan.{conditionIn}
 use Rattle.firing.specs.Firing.{pairMeets}
 use Rattle.firing.proofs.Plans.{condition-variable, condition-variable2}
 use Rattle.firing.proofs.Slots.{bindingAt, binding-among}
-use Rattle.firing.proofs.Joins.{Left, value-read, bound-read, meets-read, tried-none, tried-more, tried-all, tried-fails, tried-free, weight-le, left-all, left-below, left-less, joins-done, joins-fail, joins-none}
+use Rattle.firing.proofs.Joins.{Left, value-read, bound-read, meets-read, tried-none, tried-more, tried-all}
+use Rattle.firing.proofs.Joins.{tried-fails, tried-free, weight-le, left-all, left-below, left-less, joins-done}
+use Rattle.firing.proofs.Joins.{joins-fail, joins-none}
 use Rattle.firing.proofs.joins_hold.Statement.{statement}
 use Rattle.firing.proofs.joins_hold.Tie as tie
 

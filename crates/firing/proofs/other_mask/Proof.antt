@@ -1,5 +1,5 @@
--- `firing::other_mask` meets its contract. The loop's invariant: the bits are the mask of the conditions passed. Assumes
--- nothing.
+-- `firing::other_mask` meets its contract. The loop's invariant: the bits are the mask of the conditions passed.
+-- Assumes nothing.
 use mathlib.Core.Path.{_≡_, _∙_, sym, ap}
 use mathlib.Core.Bool.{Bool}
 use Prim.Native.Nat.{ℕ, _-_, _≤_}
@@ -8,6 +8,7 @@ use borrow.Author.Needs.{needs}
 use Rattle.numbers.specs.Bits.{mask}
 use Rattle.numbers.proofs.Bits.{mask-none}
 use Rattle.patterns.specs.declared.Pattern.{Pattern}
+use Rattle.patterns.specs.Patterns.{mostConditions}
 use Rattle.patterns.specs.Checked.{conditionAt}
 use Rattle.firing.specs.Plan.{isOther, otherMask}
 use Rattle.firing.proofs.Masks.{mask-turn, mask-fits}
@@ -18,7 +19,7 @@ abbrev other : Pattern → ℕ → ℕ → Bool
 other p kind i = isOther kind (conditionAt p i)
 
 abbrev Inv-loop : tie.InvT-loop
-Inv-loop kind p c bits₀ i₀ bits i = (i ≤ c) × (c ≤ 32) × (bits ≡ mask (other p kind) i)
+Inv-loop kind p c bits₀ i₀ bits i = (i ≤ c) × (c ≤ mostConditions) × (bits ≡ mask (other p kind) i)
 
 abbrev μ-loop : tie.MeasureT-loop
 μ-loop kind p c bits₀ i₀ bits i = c - i

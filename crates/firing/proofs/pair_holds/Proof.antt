@@ -1,4 +1,5 @@
--- `firing::pair_holds` meets its contract, by the side that v stands on and by the variable of the binding. Assumes nothing.
+-- `firing::pair_holds` meets its contract, by the side that v stands on and by the variable of the binding.
+-- Assumes nothing.
 use mathlib.Core.Path.{_≡_, _∙_, refl, sym, ap, ap₂}
 use mathlib.Core.Bool.{Bool, true, false, not}
 use Prim.Native.Nat.{ℕ}

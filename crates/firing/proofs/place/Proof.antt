@@ -1,7 +1,8 @@
 -- `firing::place` meets its contract, by the part of the plan that the place stands in. Assumes nothing.
 use mathlib.Core.Path.{_∙_, sym}
 use native.Mathlib.Omega.{arith}
-use Rattle.firing.proofs.Plans.{place-word, place-none, place-mask, place-joins, place-class, place-others, none-tells}
+use Rattle.firing.proofs.Plans.{place-word, place-none, place-mask, place-joins, place-class, place-others}
+use Rattle.firing.proofs.Plans.{none-tells}
 use borrow.Author.Needs.{needs}
 use Rattle.firing.proofs.place.Statement.{statement}
 use Rattle.firing.proofs.place.Tie as tie

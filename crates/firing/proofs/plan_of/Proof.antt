@@ -1,5 +1,5 @@
--- `firing::plan_of` meets its contract. The loop's invariant: the places passed are filled, and give the conditions back.
--- Assumes nothing.
+-- `firing::plan_of` meets its contract. The loop's invariant: the places passed are filled, and give the conditions
+-- back. Assumes nothing.
 use mathlib.Core.Path.{_≡_, _∙_, refl, ap, subst}
 use Prim.Native.Nat.{_-_, _≤_}
 use native.Mathlib.Omega.{arith}
@@ -7,16 +7,16 @@ use borrow.Author.Needs.{needs}
 use lib.ListN.{length}
 use Rattle.numbers.specs.Numbers.{upto}
 use Rattle.patterns.specs.Checked.{filled}
-use Rattle.firing.specs.Plan.{planUpTo}
+use Rattle.firing.specs.Plan.{planRoom, planUpTo}
 use Rattle.firing.proofs.Plans.{Backs, plan-more, upto-length, backs-none, backs-more, plan-made}
 use Rattle.firing.proofs.plan_of.Statement.{statement}
 use Rattle.firing.proofs.plan_of.Tie as tie
 
 abbrev Inv-loop : tie.InvT-loop
-Inv-loop p plan₀ at₀ plan at = (at ≤ 102) × (plan ≡ planUpTo p at) × Backs p at
+Inv-loop p plan₀ at₀ plan at = (at ≤ planRoom) × (plan ≡ planUpTo p at) × Backs p at
 
 abbrev μ-loop : tie.MeasureT-loop
-μ-loop p plan₀ at₀ plan at = 102 - at
+μ-loop p plan₀ at₀ plan at = planRoom - at
 
 loop-holds : tie.Need-loop-holds Inv-loop μ-loop
 unfolding planUpTo filled upto
@@ -47,7 +47,7 @@ returns : tie.Need-returns Inv-loop μ-loop
 returns c =
     let p = c .before .before .args .p in
     let l = c .before .loop in
-    let e : l .at ≡ 102 = omega arith in
+    let e : l .at ≡ planRoom = omega arith in
     plan-made p (l .plan) (c .before .before .pre .fewConditions) (l .inv .1 ∙ ap (planUpTo p) e) (subst (Backs p) e (l .inv .2))
 
 pub plan-of-spec : {M : Type 1} → statement M

@@ -1,5 +1,5 @@
--- `firing::settle_attribute` meets its contract. The loop's invariant: the mask is settled by the conditions of the kind
--- whose bits are no longer left. Assumes nothing.
+-- `firing::settle_attribute` meets its contract. The loop's invariant: the mask is settled by the conditions of the
+-- kind whose bits are no longer left. Assumes nothing.
 use mathlib.Core.Path.{_≡_, _∙_, ap}
 use Prim.Native.Nat.{_^_, _<_}
 use native.Mathlib.Omega.{arith}
@@ -10,7 +10,8 @@ use Rattle.patterns.specs.declared.Condition.{Condition}
 use Rattle.patterns.specs.Comparison.{value, raise, constantValue}
 use Rattle.firing.specs.Plan.{conditionIn, othersIn}
 use Rattle.firing.proofs.Joins.{weight-le}
-use Rattle.firing.proofs.Settling.{OfKind, bit-below, leftBy, others-bound, others-kind, left-first, left-all, left-turn, value-settled}
+use Rattle.firing.proofs.Settling.{OfKind, bit-below, leftBy, others-bound, others-kind, left-first, left-all}
+use Rattle.firing.proofs.Settling.{left-turn, value-settled}
 use borrow.Author.Needs.{needs}
 use Rattle.firing.proofs.settle_attribute.Statement.{statement}
 use Rattle.firing.proofs.settle_attribute.Tie as tie

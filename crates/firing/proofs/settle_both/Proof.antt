@@ -9,9 +9,11 @@ use lib.Pow.{pow-pos}
 use Rattle.firing.specs.Plan.{conditionIn, othersIn, bothSides}
 use Rattle.firing.specs.Firing.{valuesOf}
 use Rattle.firing.proofs.Joins.{weight-le}
-use Rattle.firing.proofs.Settling.{OfKind, bit-below, leftBy, others-bound, others-kind, left-first, left-all, left-turn, sides-settled, value-at}
+use Rattle.firing.proofs.Settling.{OfKind, bit-below, leftBy, others-bound, others-kind, left-first, left-all}
+use Rattle.firing.proofs.Settling.{left-turn, sides-settled, value-at}
 use Rattle.records.specs.Records.{recordAt}
 use Rattle.patterns.specs.declared.Condition.{Condition}
+use Rattle.patterns.specs.Patterns.{mostConditions}
 use borrow.Author.Needs.{needs}
 use Rattle.firing.proofs.settle_both.Statement.{statement}
 use Rattle.firing.proofs.settle_both.Tie as tie
@@ -150,7 +152,7 @@ loop-again c =
     let r = recordAt (a .block .now) (a .i) in
     let below = bit-below (l .rest) (a .c) (low .result) (l .inv .0) (low .ensures .here) in
     let few = st .pre .conditions in
-    let at : low .result < 32 = omega arith in
+    let at : low .result < mostConditions = omega arith in
     let first = st .pre .sound .attribute (low .result) at in
     let second = st .pre .sound .attribute2 (low .result) at in
     let taken = c .before .settle-order in

@@ -1,4 +1,5 @@
--- `firing::settle_order` meets its contract: the weight of the variable where the order fails, taken out. Assumes nothing.
+-- `firing::settle_order` meets its contract: the weight of the variable where the order fails, taken out.
+-- Assumes nothing.
 use mathlib.Core.Path.{_≡_, _∙_, ap, ap₂}
 use mathlib.Core.Bool.{not}
 use Prim.Native.Nat.{ℕ, _*_, _^_}

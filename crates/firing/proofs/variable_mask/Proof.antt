@@ -1,5 +1,5 @@
--- `firing::variable_mask` meets its contract. The loop's invariant: the bits are the mask of the variables passed. Assumes
--- nothing.
+-- `firing::variable_mask` meets its contract. The loop's invariant: the bits are the mask of the variables passed.
+-- Assumes nothing.
 use mathlib.Core.Path.{_≡_, _∙_, sym, ap}
 use Prim.Native.Nat.{_-_, _≤_}
 use native.Mathlib.Omega.{arith}

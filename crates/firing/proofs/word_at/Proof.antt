@@ -5,29 +5,29 @@ use borrow.Author.Needs.{needs}
 use Rattle.firing.proofs.word_at.Statement.{statement}
 use Rattle.firing.proofs.word_at.Tie as tie
 
-element-copy-out-word-of : tie.Need-element-copy-out-word-of
-element-copy-out-word-of c = search needs
+element-copy-out-t6 : tie.Need-element-copy-out-t6
+element-copy-out-t6 c = search needs
 
-element-copy-out-word-of-2 : tie.Need-element-copy-out-word-of-2
-element-copy-out-word-of-2 c = search needs
+element-copy-out-t9 : tie.Need-element-copy-out-t9
+element-copy-out-t9 c = search needs
 
-element-copy-out-word-of-3 : tie.Need-element-copy-out-word-of-3
-element-copy-out-word-of-3 c = search needs
+element-copy-out-t12 : tie.Need-element-copy-out-t12
+element-copy-out-t12 c = search needs
 
-element-copy-out-word-of-4 : tie.Need-element-copy-out-word-of-4
-element-copy-out-word-of-4 c = search needs
+element-copy-out-t15 : tie.Need-element-copy-out-t15
+element-copy-out-t15 c = search needs
 
-element-copy-out-word-of-5 : tie.Need-element-copy-out-word-of-5
-element-copy-out-word-of-5 c = search needs
+element-copy-out-t18 : tie.Need-element-copy-out-t18
+element-copy-out-t18 c = search needs
 
-element-copy-out-word-of-6 : tie.Need-element-copy-out-word-of-6
-element-copy-out-word-of-6 c = search needs
+element-copy-out-t21 : tie.Need-element-copy-out-t21
+element-copy-out-t21 c = search needs
 
-mul-word-of : tie.Need-mul-word-of
-mul-word-of c = search needs
+mul-t22 : tie.Need-mul-t22
+mul-t22 c = search needs
 
-element-copy-out-word-of-7 : tie.Need-element-copy-out-word-of-7
-element-copy-out-word-of-7 c = search needs
+element-copy-out-t25 : tie.Need-element-copy-out-t25
+element-copy-out-t25 c = search needs
 
 word-of-requires : tie.Need-word-of-requires
 unfolding conditionAt
@@ -52,13 +52,13 @@ pub word-at-spec : {M : Type 1} → statement M
 word-at-spec =
     tie.close
     (tie.spec
-    element-copy-out-word-of
-    element-copy-out-word-of-2
-    element-copy-out-word-of-3
-    element-copy-out-word-of-4
-    element-copy-out-word-of-5
-    element-copy-out-word-of-6
-    mul-word-of
-    element-copy-out-word-of-7
+    element-copy-out-t6
+    element-copy-out-t9
+    element-copy-out-t12
+    element-copy-out-t15
+    element-copy-out-t18
+    element-copy-out-t21
+    mul-t22
+    element-copy-out-t25
     word-of-requires
     returns)
