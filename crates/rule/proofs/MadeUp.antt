@@ -33,7 +33,7 @@ withCounts readings peak a =
 -- ## Of any input
 
 module _ (pattern block : List ℕ) (limit lentWork lentResult : ℕ) (a : Answer) (work result : List ℕ) where
-  -- peak: the most readings live after any record
+  -- the peak is the greatest count that the rule gives
   pub peak-counted : ForwardCall pattern block limit lentWork lentResult a work result → a .code ≡ 0
       → IsPeak (patternIn pattern) (blockIn block) (a .peak)
   peak-counted (ForwardCall.refused-input n e w r) z = absurd (n (sym (ap (λ (x : Answer). x .code) e) ∙ z))
