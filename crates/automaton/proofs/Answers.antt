@@ -19,7 +19,10 @@ module _ (bytes : List ℕ) (checked : Checked) (is : checked ≡ patternAnswer 
   code-is : checked .code ≡ patternAnswer bytes .code
   code-is = ap (λ (a : Checked). a .code) is
 
-  pub meets-bad : (lent : ℕ) (answer : Answer) (after : List ℕ) → ¬ (checked .code ≡ 0) → answer ≡ refused (checked .code) (checked .place) → after ≡ allZero lent → ListingPromise bytes lent answer after
+  pub meets-bad :
+      (lent : ℕ) (answer : Answer) (after : List ℕ) → ¬ (checked .code ≡ 0)
+      → answer ≡ refused (checked .code) (checked .place) → after ≡ allZero lent
+      → ListingPromise bytes lent answer after
   meets-bad lent answer after bad e z =
       badPattern (λ h. bad (code-is ∙ h)) (e ∙ ap (λ (a : Checked). refused (a .code) (a .place)) is) z
 
@@ -39,11 +42,14 @@ module _ (bytes : List ℕ) (checked : Checked) (is : checked ≡ patternAnswer 
         (steps-is (checked .pattern) (checked-in-order .few) (checked-in-order .fewConditions))
 
     -- the steps put into a cleared slice
-    module _ (lent count : ℕ) (cleared memory : List ℕ) (zero : cleared ≡ allZero lent) (put : sinkOf memory count ≡ puts (sinkOf cleared 0) (steps (checked .pattern))) where
+    module _ (lent count : ℕ) (cleared memory : List ℕ) (zero : cleared ≡ allZero lent)
+        (put : sinkOf memory count ≡ puts (sinkOf cleared 0) (steps (checked .pattern))) where
       counted : count ≡ length (steps (checked .pattern))
       counted = omega (arith, count-after memory cleared 0 count (steps (checked .pattern)) put)
 
-      pub meets-short : (answer : Answer) (after : List ℕ) → stepRoom lent < count → answer ≡ refused 12 0 → after ≡ allZero lent → ListingPromise bytes lent answer after
+      pub meets-short :
+          (answer : Answer) (after : List ℕ) → stepRoom lent < count → answer ≡ refused 12 0 → after ≡ allZero lent
+          → ListingPromise bytes lent answer after
       meets-short answer after short e z = noRoom accepted (steps (checked .pattern)) is-listing (omega (arith, counted)) e z
 
       pub meets-listed : count ≤ stepRoom lent → ListingPromise bytes lent (stepsListed count) memory

@@ -56,11 +56,15 @@ module _ (p : Pattern) (s : ℕ) where
   unfolding earlierThan
   bound-earlier v f = all-upto-true (λ u. implies (ltb (setOf p u) (setOf p v)) (stateOf s u)) (p .n) (λ u l. implied-of (ltb (setOf p u) (setOf p v)) (bit s u) (λ e. f u l (ltb-true _ _ e)))
 
-  state-closed : isState p s ≡ true → (v : ℕ) → v < p .n → bit s v ≡ true → (u : ℕ) → u < p .n → setOf p u < setOf p v → bit s u ≡ true
+  state-closed :
+      isState p s ≡ true → (v : ℕ) → v < p .n → bit s v ≡ true → (u : ℕ) → u < p .n → setOf p u < setOf p v
+      → bit s u ≡ true
   unfolding isState earlierThan
   state-closed h v l e = earlier-bound v (implied (stateOf s v) (earlierThan v) (each p (λ v. implies (stateOf s v) (earlierThan v)) (both {a = ltb s (2 ^ p .n)} h .1) v l) e)
 
-  closed-state : s < 2 ^ p .n → ((v : ℕ) → v < p .n → bit s v ≡ true → (u : ℕ) → u < p .n → setOf p u < setOf p v → bit s u ≡ true) → isState p s ≡ true
+  closed-state :
+      s < 2 ^ p .n → ((v : ℕ) → v < p .n → bit s v ≡ true → (u : ℕ) → u < p .n → setOf p u < setOf p v → bit s u ≡ true)
+      → isState p s ≡ true
   unfolding isState earlierThan
   closed-state h f = and-of _ _ (lt-ltb _ _ h) (all-upto-true (λ v. implies (stateOf s v) (earlierThan v)) (p .n) (λ v l. implied-of (stateOf s v) (earlierThan v) (λ e. bound-earlier v (f v l e))))
 
@@ -186,7 +190,8 @@ module _ (p : Pattern) (v : ℕ) (inside : v < p .n) where
   unfolding free
   free-count = omega (arith, count-but (λ u. eqb (setOf p u) (setOf p v)) v (p .n) inside (eq-eqb (setOf p v) (setOf p v) refl))
 
-  asked-count : (b : Bool) → sum (λ s. oneIf (asked free (want b) (p .n) s)) (2 ^ p .n) ≡ 2 ^ (setSize p (setOf p v) - 1)
+  asked-count :
+      (b : Bool) → sum (λ s. oneIf (asked free (want b) (p .n) s)) (2 ^ p .n) ≡ 2 ^ (setSize p (setOf p v) - 1)
   asked-count b = count-asked free (want b) (p .n) ∙ ap (λ (k : ℕ). 2 ^ k) free-count
 
   opens-count : sum (λ s. oneIf (isState p s && opens p (stateOf s) v)) (2 ^ p .n) ≡ 2 ^ (setSize p (setOf p v) - 1)
@@ -196,7 +201,9 @@ module _ (p : Pattern) (v : ℕ) (inside : v < p .n) where
   unfolding loops
   no-loop s e = rw (e, and-false (bit s v)) (and-false (isState p s))
 
-  loops-count : sum (λ s. oneIf (isState p s && loops p (stateOf s) v)) (2 ^ p .n) ≡ oneIf (isGroup p v) * 2 ^ (setSize p (setOf p v) - 1)
+  loops-count :
+      sum (λ s. oneIf (isState p s && loops p (stateOf s) v)) (2 ^ p .n)
+      ≡ oneIf (isGroup p v) * 2 ^ (setSize p (setOf p v) - 1)
   loops-count =
       by-test (isGroup p v)
       (λ e. sum-same _ _ (2 ^ p .n) (λ s h. ap oneIf (loops-asked s h e)) ∙ asked-count true ∙ rw e (sym (one-mul _)))
@@ -216,8 +223,11 @@ module _ (p : Pattern) (v : ℕ) (inside : v < p .n) where
   unfolding leaves
   leaves-either s = rw (lt-ltb _ _ inside)
 
-  -- a variable leaves as many states as its set has parts without it, and once more as many where it is a group variable
-  pub leaves-count : sum (λ s. oneIf (isState p s && leaves p (stateOf s) v)) (2 ^ p .n) ≡ (1 + oneIf (isGroup p v)) * 2 ^ (setSize p (setOf p v) - 1)
+  -- a variable leaves as many states as its set has parts without it, and once more as many where it is a
+  -- group variable
+  pub leaves-count :
+      sum (λ s. oneIf (isState p s && leaves p (stateOf s) v)) (2 ^ p .n)
+      ≡ (1 + oneIf (isGroup p v)) * 2 ^ (setSize p (setOf p v) - 1)
   leaves-count =
       sum-same _ _ (2 ^ p .n) (λ s h. ap (λ (t : Bool). oneIf (isState p s && t)) (leaves-either s) ∙ exclusive (isState p s) (opens p (stateOf s) v) (loops p (stateOf s) v) (open-no-loop s))
       ∙ sum-add (λ s. oneIf (isState p s && opens p (stateOf s) v)) (λ s. oneIf (isState p s && loops p (stateOf s) v)) (2 ^ p .n)

@@ -41,7 +41,9 @@ module _ (test : ℕ → Bool) where
   passing-append [] m = sym (zero-add (passing m))
   passing-append (w ∷ l) m = omega (arith, keep-size (test w) w (filter test (l ++ m)), keep-size (test w) w (filter test l), passing-append l m)
 
-  collect-snoc : (f : ℕ → List ℕ) (l : List ℕ) (k : ℕ) → passing (collect f (l ++ (k ∷ []))) ≡ passing (collect f l) + passing (f k)
+  collect-snoc :
+      (f : ℕ → List ℕ) (l : List ℕ) (k : ℕ)
+      → passing (collect f (l ++ (k ∷ []))) ≡ passing (collect f l) + passing (f k)
   unfolding collect passing filter
   collect-snoc f [] k = ap passing (append-nil (f k)) ∙ sym (zero-add (passing (f k)))
   collect-snoc f (x ∷ l) k = omega (arith, passing-append (f x) (collect f (l ++ (k ∷ []))), passing-append (f x) (collect f l), collect-snoc f l k)
@@ -61,13 +63,17 @@ module _ (test : ℕ → Bool) where
   -- ## Of the steps
 
   module _ (p : Pattern) where
-    passing-from : (s : ℕ) → passing (stepsFrom p s) ≡ sum (λ v. oneIf (leaves p (stateOf s) v && test (stepWord p s v))) (p .n)
+    passing-from :
+        (s : ℕ) → passing (stepsFrom p s) ≡ sum (λ v. oneIf (leaves p (stateOf s) v && test (stepWord p s v))) (p .n)
     unfolding stepOn
     passing-from s =
         ap passing (from-variables p s) ∙ passing-collect (stepOn p s) (p .n)
         ∙ sum-same _ _ (p .n) (λ v h. passing-kept (leaves p (stateOf s) v) (stepWord p s v))
 
-    passing-at : (s : ℕ) → passing (stepsAt p s) ≡ sum (λ v. oneIf (isState p s && (leaves p (stateOf s) v && test (stepWord p s v)))) (p .n)
+    passing-at :
+        (s : ℕ)
+        → passing (stepsAt p s)
+        ≡ sum (λ v. oneIf (isState p s && (leaves p (stateOf s) v && test (stepWord p s v)))) (p .n)
     unfolding stepsAt passing filter
     passing-at s =
         by-test (isState p s)
@@ -75,14 +81,18 @@ module _ (test : ℕ → Bool) where
         (λ e. rw (e, stepsAt) (sym (sum-zero (λ v. 0) (p .n) (λ v h. refl))))
 
     -- variable by variable
-    passing-steps : passing (steps p) ≡ sum (λ v. sum (λ s. oneIf (isState p s && (leaves p (stateOf s) v && test (stepWord p s v)))) (2 ^ p .n)) (p .n)
+    passing-steps :
+        passing (steps p) ≡ sum
+        (λ v. sum (λ s. oneIf (isState p s && (leaves p (stateOf s) v && test (stepWord p s v)))) (2 ^ p .n)) (p .n)
     passing-steps =
         ap passing (from-states p) ∙ passing-collect (stepsAt p) (2 ^ p .n) ∙ sum-same _ _ (2 ^ p .n) (λ s h. passing-at s)
         ∙ sum-swap (λ s v. oneIf (isState p s && (leaves p (stateOf s) v && test (stepWord p s v)))) (2 ^ p .n) (p .n)
 
 -- ## The steps of a set
 
-step-variable : (p : Pattern) → p .n ≤ mostVariables → p .c ≤ mostConditions → (s v : ℕ) → v < p .n → stepVariable (stepWord p s v) ≡ v
+step-variable :
+    (p : Pattern) → p .n ≤ mostVariables → p .c ≤ mostConditions → (s v : ℕ) → v < p .n
+    → stepVariable (stepWord p s v) ≡ v
 unfolding stepWord
 step-variable p few fewConditions s v h =
     omega (arith, oneIf-bound (opens p (stateOf s) v && marked p (stateOf s) v), carried-small p few fewConditions (stateOf s) v)
@@ -94,7 +104,8 @@ module _ (p : Pattern) (few : p .n ≤ mostVariables) (fewConditions : p .c ≤ 
   each : ℕ
   each = 2 ^ (setSize p set - 1)
 
-  once-or-twice : (t g : Bool) (x y : ℕ) → (t ≡ true → x ≡ y) → oneIf t * ((1 + oneIf g) * x) ≡ oneIf t * y + oneIf (t && g) * y
+  once-or-twice :
+      (t g : Bool) (x y : ℕ) → (t ≡ true → x ≡ y) → oneIf t * ((1 + oneIf g) * x) ≡ oneIf t * y + oneIf (t && g) * y
   once-or-twice true true x y e = omega (arith, e refl)
   once-or-twice true false x y e = omega (arith, e refl)
   once-or-twice false g x y e = omega arith
@@ -123,7 +134,9 @@ module _ (p : Pattern) (few : p .n ≤ mostVariables) (fewConditions : p .c ≤ 
       ∙ sym (add-mul (setSize p set) (groupSize p set) each)
 
 -- rule 4.7, of any listing of a pattern in order
-pub set-steps : (p : Pattern) → InOrder p → (l : List ℕ) → IsListing p l → (set : ℕ) → length (stepsOfSet p set l) ≡ stepsGiven p set
+pub set-steps :
+    (p : Pattern) → InOrder p → (l : List ℕ) → IsListing p l → (set : ℕ)
+    → length (stepsOfSet p set l) ≡ stepsGiven p set
 set-steps p ok l is set =
     ap (λ (m : List ℕ). length (stepsOfSet p set m)) (one-listing p l (steps p) is (steps-is p (ok .few) (ok .fewConditions)))
     ∙ counted p (ok .few) (ok .fewConditions) set
@@ -136,7 +149,9 @@ module _ (f : ℕ → ℕ) (n : ℕ) where
   at-one zero h l = absurd (omega arith)
   at-one (suc k) h l = sum-same _ _ n (λ i d. ap oneIf (eqb·suc-suc k i)) ∙ sum-one k n (omega arith)
 
-  split-by : (l : List ℕ) → ((w : ℕ) → List·Memᴰ w l → (1 ≤ f w) × (f w ≤ n)) → length l ≡ sum (λ i. length (filter (λ w. eqb (f w) (suc i)) l)) n
+  split-by :
+      (l : List ℕ) → ((w : ℕ) → List·Memᴰ w l → (1 ≤ f w) × (f w ≤ n))
+      → length l ≡ sum (λ i. length (filter (λ w. eqb (f w) (suc i)) l)) n
   unfolding filter
   split-by [] h = sym (sum-zero (λ i. 0) n (λ i d. refl))
   split-by (w ∷ l) h =
@@ -153,7 +168,8 @@ sets-from-one p ok zero h = omega (arith, ok .begins)
 sets-from-one p ok (suc v) h = omega (arith, sets-from-one p ok v (omega arith), ok .climbs v h .0)
 
 -- The listing has the steps of all sets; a number that no variable has gives none.
-pub all-steps : (p : Pattern) → InOrder p → (l : List ℕ) → IsListing p l → length l ≡ sum (λ i. stepsGiven p (suc i)) mostSets
+pub all-steps :
+    (p : Pattern) → InOrder p → (l : List ℕ) → IsListing p l → length l ≡ sum (λ i. stepsGiven p (suc i)) mostSets
 all-steps p ok l is =
     split-by (λ w. setOf p (stepVariable w)) mostSets l within
     ∙ sum-same _ _ mostSets (λ i h. set-steps p ok l is (suc i))

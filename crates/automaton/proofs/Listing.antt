@@ -15,10 +15,13 @@ use Rattle.patterns.specs.declared.Pattern.{Pattern}
 use Rattle.patterns.specs.Patterns.{mostVariables, mostConditions}
 use Rattle.patterns.specs.Checked.{conditionAt}
 use Rattle.automaton.specs.Filtering.{filter, collect}
-use Rattle.automaton.specs.Automaton.{State, IsListing, stateOf, isState, leaves, opens, marked, carries, carried, stepWord, variablesOf}
+use Rattle.automaton.specs.Automaton.{State, IsListing, stateOf, isState, leaves, opens, marked, carries, carried}
+use Rattle.automaton.specs.Automaton.{stepWord, variablesOf}
 use Rattle.automaton.specs.Steps.{stepsFrom, steps}
-use Rattle.automaton.proofs.Membership.{both, mem-filter, filter-mem, mem-map, map-mem, mem-collect, collect-mem, upto-mem}
-use Rattle.automaton.proofs.Ordered.{Ordered, ordered-append, ordered-filter, ordered-map, ordered-upto, ordered-unique}
+use Rattle.automaton.proofs.Membership.{both, mem-filter, filter-mem, mem-map, map-mem, mem-collect, collect-mem}
+use Rattle.automaton.proofs.Membership.{upto-mem}
+use Rattle.automaton.proofs.Ordered.{Ordered, ordered-append, ordered-filter, ordered-map, ordered-upto}
+use Rattle.automaton.proofs.Ordered.{ordered-unique}
 
 pub leaves-variable : (p : Pattern) (S : State) (v : ℕ) → leaves p S v ≡ true → v < p .n
 unfolding leaves
@@ -42,7 +45,8 @@ module _ (p : Pattern) (few : p .n ≤ mostVariables) (fewConditions : p .c ≤ 
   unfolding stepWord
   word-state s t v w h g = omega (arith, oneIf-bound (opens p (stateOf s) v && marked p (stateOf s) v), carried-small (stateOf s) v)
 
-  mem-from : (s : ℕ) {w : ℕ} → List·Memᴰ w (stepsFrom p s) → (v : ℕ) × (leaves p (stateOf s) v ≡ true) × (w ≡ stepWord p s v)
+  mem-from :
+      (s : ℕ) {w : ℕ} → List·Memᴰ w (stepsFrom p s) → (v : ℕ) × (leaves p (stateOf s) v ≡ true) × (w ≡ stepWord p s v)
   unfolding stepsFrom
   mem-from s m =
       let h = mem-map (stepWord p s) (filter (leaves p (stateOf s)) (variablesOf p)) m in

@@ -2,7 +2,8 @@
 use mathlib.Core.Path.{_≡_, refl, sym, ap, subst, _∙_}
 use mathlib.Core.Logic.{_⊎_, inl, inr}
 use mathlib.Core.Bool.{Bool, true, false, _&&_, false≢true}
-use mathlib.Core.List.{List, [], _∷_, map, List·Memᴰ, List·Memᴰ·head, List·Memᴰ·tail, List·Memᴰ·not-nil, List·Memᴰ·cases-cons, Memᴰ·append-left, Memᴰ·append-right, List·Memᴰ·append-cases}
+use mathlib.Core.List.{List, [], _∷_, map, List·Memᴰ, List·Memᴰ·head, List·Memᴰ·tail, List·Memᴰ·not-nil}
+use mathlib.Core.List.{List·Memᴰ·cases-cons, Memᴰ·append-left, Memᴰ·append-right, List·Memᴰ·append-cases}
 use Prim.Native.Nat.{ℕ, zero, suc, _+_, _≤_, _<_}
 use native.Mathlib.Omega.{arith}
 use native.Mathlib.Decide.{ℕ-discrete}
@@ -51,7 +52,10 @@ module _ {A : Type 0} where
   mem-filter f [] m = absurd (List·Memᴰ·not-nil m)
   mem-filter f (x ∷ l) {a} m = go (λ k. mem-filter f l k) (mem-keep (f x) m)
     where
-      go : (List·Memᴰ a (filter f l) → (f a ≡ true) × List·Memᴰ a l) → ((f x ≡ true) × (a ≡ x)) ⊎ List·Memᴰ a (filter f l) → (f a ≡ true) × List·Memᴰ a (x ∷ l)
+      go :
+          (List·Memᴰ a (filter f l) → (f a ≡ true) × List·Memᴰ a l)
+          → ((f x ≡ true) × (a ≡ x)) ⊎ List·Memᴰ a (filter f l)
+          → (f a ≡ true) × List·Memᴰ a (x ∷ l)
       go ih (inl h) = (ap f (h .1) ∙ h .0, List·Memᴰ·head (h .1))
       go ih (inr k) = let h = ih k in (h .0, List·Memᴰ·tail (h .1))
 
@@ -70,16 +74,21 @@ module _ {A B : Type 0} where
   map-mem f (List·Memᴰ·head e) = List·Memᴰ·head (ap f e)
   map-mem f (List·Memᴰ·tail m) = List·Memᴰ·tail (map-mem f m)
 
-  pub mem-collect : (f : A → List B) (l : List A) {b : B} → List·Memᴰ b (collect f l) → (a : A) × List·Memᴰ a l × List·Memᴰ b (f a)
+  pub mem-collect :
+      (f : A → List B) (l : List A) {b : B} → List·Memᴰ b (collect f l) → (a : A) × List·Memᴰ a l × List·Memᴰ b (f a)
   unfolding collect
   mem-collect f [] m = absurd (List·Memᴰ·not-nil m)
   mem-collect f (x ∷ l) {b} m = go (λ k. mem-collect f l k) (List·Memᴰ·append-cases (f x) m)
     where
-      go : (List·Memᴰ b (collect f l) → (a : A) × List·Memᴰ a l × List·Memᴰ b (f a)) → List·Memᴰ b (f x) ⊎ List·Memᴰ b (collect f l) → (a : A) × List·Memᴰ a (x ∷ l) × List·Memᴰ b (f a)
+      go :
+          (List·Memᴰ b (collect f l) → (a : A) × List·Memᴰ a l × List·Memᴰ b (f a))
+          → List·Memᴰ b (f x) ⊎ List·Memᴰ b (collect f l)
+          → (a : A) × List·Memᴰ a (x ∷ l) × List·Memᴰ b (f a)
       go ih (inl h) = (x, List·Memᴰ·head refl, h)
       go ih (inr h) = let r = ih h in (r .0, List·Memᴰ·tail (r .1), r .2)
 
-  pub collect-mem : (f : A → List B) {a : A} {b : B} {l : List A} → List·Memᴰ a l → List·Memᴰ b (f a) → List·Memᴰ b (collect f l)
+  pub collect-mem :
+      (f : A → List B) {a : A} {b : B} {l : List A} → List·Memᴰ a l → List·Memᴰ b (f a) → List·Memᴰ b (collect f l)
   unfolding collect
   collect-mem f {b} (List·Memᴰ·head {xs} e) h = Memᴰ·append-left (collect f xs) (subst (λ y. List·Memᴰ b (f y)) e h)
   collect-mem f (List·Memᴰ·tail {x} m) h = Memᴰ·append-right (f x) (collect-mem f m h)

@@ -1,9 +1,10 @@
--- Lists in which each entry stands in a relation to all that follow it. Where the relation goes one way only, the members
--- settle the list. Assumes nothing.
+-- Lists in which each entry stands in a relation to all that follow it. Where the relation goes one way only, the
+-- members settle the list. Assumes nothing.
 use mathlib.Core.Path.{_≡_, refl, sym, ap₂, subst, _∙_}
 use mathlib.Core.Logic.{_⊎_, inl, inr}
 use mathlib.Core.Bool.{Bool, true, false}
-use mathlib.Core.List.{List, [], _∷_, _++_, map, List·Memᴰ, List·Memᴰ·head, List·Memᴰ·tail, List·Memᴰ·not-nil, List·Memᴰ·cases-cons, List·Memᴰ·append-cases}
+use mathlib.Core.List.{List, [], _∷_, _++_, map, List·Memᴰ, List·Memᴰ·head, List·Memᴰ·tail, List·Memᴰ·not-nil}
+use mathlib.Core.List.{List·Memᴰ·cases-cons, List·Memᴰ·append-cases}
 use Prim.Native.Nat.{ℕ, zero, suc, _<_}
 use Rattle.numbers.specs.Numbers.{upto}
 use Rattle.automaton.specs.Filtering.{keep, filter}
@@ -14,7 +15,8 @@ module _ {A : Type 0} (R : A → A → Type 0) where
   Ordered [] = Unit {0}
   Ordered (x ∷ l) = ((y : A) → List·Memᴰ y l → R x y) × Ordered l
 
-  pub ordered-append : (l m : List A) → Ordered l → Ordered m → ((x y : A) → List·Memᴰ x l → List·Memᴰ y m → R x y) → Ordered (l ++ m)
+  pub ordered-append :
+      (l m : List A) → Ordered l → Ordered m → ((x y : A) → List·Memᴰ x l → List·Memᴰ y m → R x y) → Ordered (l ++ m)
   ordered-append [] m p q h = q
   ordered-append (x ∷ l) m p q h = (λ s k. go s (List·Memᴰ·append-cases l k), ordered-append l m (p .1) q (λ a b i j. h a b (List·Memᴰ·tail i) j))
     where
@@ -31,7 +33,10 @@ module _ {A : Type 0} (R : A → A → Type 0) where
       go true r = (λ s k. p .0 s (mem-filter f l k .1), r)
       go false r = r
 
-pub ordered-map : {A C : Type 0} (R : A → A → Type 0) (S : C → C → Type 0) (f : A → C) → ((x y : A) → R x y → S (f x) (f y)) → (l : List A) → Ordered R l → Ordered S (map f l)
+pub ordered-map :
+    {A C : Type 0} (R : A → A → Type 0) (S : C → C → Type 0) (f : A → C)
+    → ((x y : A) → R x y → S (f x) (f y)) → (l : List A) → Ordered R l
+    → Ordered S (map f l)
 ordered-map R S f h [] p = tt
 ordered-map R S f h (x ∷ l) p = (λ s m. let k = mem-map f l m in subst (S (f x)) (sym (k .2)) (h x (k .0) (p .0 (k .0) (k .1))), ordered-map R S f h l (p .1))
 
@@ -42,14 +47,20 @@ ordered-upto k (suc m) = (λ w h. mem-upto (suc k) m h, ordered-upto (suc k) m)
 
 module _ {A : Type 0} (R : A → A → Type 0) (asym : (a b : A) → R a b → ¬ R b a) where
   -- a member of an ordered list other than its head is in the tail
-  in-tail : (x y : A) (l m : List A) → x ≡ y → ((z : A) → List·Memᴰ z l → R x z) → ((z : A) → List·Memᴰ z (x ∷ l) → List·Memᴰ z (y ∷ m)) → (z : A) → List·Memᴰ z l → List·Memᴰ z m
+  in-tail :
+      (x y : A) (l m : List A) → x ≡ y → ((z : A) → List·Memᴰ z l → R x z)
+      → ((z : A) → List·Memᴰ z (x ∷ l) → List·Memᴰ z (y ∷ m)) → (z : A) → List·Memᴰ z l
+      → List·Memᴰ z m
   in-tail x y l m e o f z h = go (List·Memᴰ·cases-cons (f z (List·Memᴰ·tail h)))
     where
       go : (z ≡ y) ⊎ List·Memᴰ z m → List·Memᴰ z m
       go (inr k) = k
       go (inl d) = let c = subst (R x) (d ∙ sym e) (o z h) in absurd (asym x x c c)
 
-  pub ordered-unique : (l m : List A) → Ordered R l → Ordered R m → ((x : A) → List·Memᴰ x l → List·Memᴰ x m) → ((x : A) → List·Memᴰ x m → List·Memᴰ x l) → l ≡ m
+  pub ordered-unique :
+      (l m : List A) → Ordered R l → Ordered R m → ((x : A) → List·Memᴰ x l → List·Memᴰ x m)
+      → ((x : A) → List·Memᴰ x m → List·Memᴰ x l)
+      → l ≡ m
   ordered-unique [] [] p q f g = refl
   ordered-unique [] (y ∷ m) p q f g = absurd (List·Memᴰ·not-nil (g y (List·Memᴰ·head refl)))
   ordered-unique (x ∷ l) [] p q f g = absurd (List·Memᴰ·not-nil (f x (List·Memᴰ·head refl)))

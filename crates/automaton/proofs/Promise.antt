@@ -7,14 +7,19 @@ use lib.ListN.{length}
 use Rattle.records.specs.declared.Answer.{Answer}
 use Rattle.patterns.specs.Checked.{patternOf}
 use Rattle.automaton.specs.Automaton.{IsListing}
-use Rattle.automaton.specs.Listing.{ListingPromise, badPattern, noRoom, listed, stepBytes, listingBytes, allZero, stepsListed}
+use Rattle.automaton.specs.Listing.{ListingPromise, badPattern, noRoom, listed, stepBytes, listingBytes, allZero}
+use Rattle.automaton.specs.Listing.{stepsListed}
 use Rattle.automaton.proofs.Listing.{one-listing}
 
-same-length : (pattern l m : List ℕ) → IsListing (patternOf pattern) l → IsListing (patternOf pattern) m → length l ≡ length m
+same-length :
+    (pattern l m : List ℕ) → IsListing (patternOf pattern) l → IsListing (patternOf pattern) m → length l ≡ length m
 same-length pattern l m h g = ap length (one-listing (patternOf pattern) l m h g)
 
 -- any two answers and slices that meet the promise of `list_automaton` are equal
-pub listing-promise-unique : (pattern : List ℕ) (lent : ℕ) (a b : Answer) (x y : List ℕ) → ListingPromise pattern lent a x → ListingPromise pattern lent b y → (a ≡ b) × (x ≡ y)
+pub listing-promise-unique :
+    (pattern : List ℕ) (lent : ℕ) (a b : Answer) (x y : List ℕ)
+    → ListingPromise pattern lent a x → ListingPromise pattern lent b y
+    → (a ≡ b) × (x ≡ y)
 listing-promise-unique pattern lent a b x y (badPattern h e f) (badPattern k d g) = (e ∙ sym d, f ∙ sym g)
 listing-promise-unique pattern lent a b x y (badPattern h e f) (noRoom k m i r d g) = absurd (h k)
 listing-promise-unique pattern lent a b x y (badPattern h e f) (listed k m i r d g) = absurd (h k)

@@ -1,4 +1,5 @@
--- Steps put into lent memory one after the other: the count, the bytes, and a loop that puts what is left. Assumes nothing.
+-- Steps put into lent memory one after the other: the count, the bytes, and a loop that puts what is left.
+-- Assumes nothing.
 use mathlib.Core.Path.{_≡_, _∙_, refl, sym, ap, ap₂}
 use mathlib.Core.Bool.{Bool, true, false}
 use mathlib.Core.List.{List, [], _∷_, _++_, map, append-assoc, append-nil}
@@ -25,7 +26,8 @@ unfolding keep
 map-keep f true v l = refl
 map-keep f false v l = refl
 
-on-each : (p : Pattern) (s : ℕ) (l : List ℕ) → map (stepWord p s) (filter (leaves p (stateOf s)) l) ≡ collect (stepOn p s) l
+on-each :
+    (p : Pattern) (s : ℕ) (l : List ℕ) → map (stepWord p s) (filter (leaves p (stateOf s)) l) ≡ collect (stepOn p s) l
 unfolding filter collect stepOn
 on-each p s [] = refl
 on-each p s (v ∷ l) = map-keep (stepWord p s) (leaves p (stateOf s) v) v (filter (leaves p (stateOf s)) l) ∙ ap (λ (m : List ℕ). stepOn p s v ++ m) (on-each p s l)
@@ -34,7 +36,9 @@ pub from-variables : (p : Pattern) (s : ℕ) → stepsFrom p s ≡ collect (step
 unfolding stepsFrom
 from-variables p s = on-each p s (variablesOf p)
 
-collect-keep : (f : ℕ → List ℕ) (t : Bool) (s : ℕ) (l : List ℕ) → collect f (keep t s l) ≡ elim t [ true ↦ f s | false ↦ [] ] ++ collect f l
+collect-keep :
+    (f : ℕ → List ℕ) (t : Bool) (s : ℕ) (l : List ℕ)
+    → collect f (keep t s l) ≡ elim t [ true ↦ f s | false ↦ [] ] ++ collect f l
 unfolding keep collect
 collect-keep f true s l = refl
 collect-keep f false s l = refl
@@ -91,7 +95,9 @@ puts-count sink [] = sym (add-zero (sink .count))
 puts-count sink (w ∷ l) = omega (arith, puts-count (put sink w) l)
 
 -- how many steps a call has counted
-pub count-after : (memory before : List ℕ) (count total : ℕ) (l : List ℕ) → sinkOf memory total ≡ puts (sinkOf before count) l → total ≡ count + length l
+pub count-after :
+    (memory before : List ℕ) (count total : ℕ) (l : List ℕ) → sinkOf memory total ≡ puts (sinkOf before count) l
+    → total ≡ count + length l
 count-after memory before count total l e = ap (λ (sink : Sink). sink .count) e ∙ puts-count (sinkOf before count) l
 
 -- a loop that puts what each number from k on gives: one turn, and its end
@@ -140,7 +146,8 @@ put-room before k m word b h =
 
 puts-room :
     (l before : List ℕ) (k m : ℕ) → length before ≡ stepBytes * k → stepBytes * length l ≤ m
-    → puts (sinkOf (before ++ allZero m) k) l ≡ sinkOf (before ++ listingBytes l ++ allZero (m - stepBytes * length l)) (k + length l)
+    → puts (sinkOf (before ++ allZero m) k) l
+    ≡ sinkOf (before ++ listingBytes l ++ allZero (m - stepBytes * length l)) (k + length l)
 unfolding puts collect
 puts-room [] before k m b h =
     let left : m ≡ m - 0 = omega arith in

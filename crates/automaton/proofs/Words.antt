@@ -11,7 +11,8 @@ use Rattle.automaton.specs.Listing.{stepBytes}
 -- eight stores, one after the other
 pub eight-stores :
     (l : List ℕ) (at a b c d e f g h : ℕ) → at + stepBytes ≤ length l
-    → set (set (set (set (set (set (set (set l at a) (at + 1) b) (at + 2) c) (at + 3) d) (at + 4) e) (at + 5) f) (at + 6) g) (at + 7) h
+    → set (set (set (set (set (set (set (set l at a) (at + 1) b) (at + 2) c) (at + 3) d) (at + 4) e) (at + 5) f)
+    (at + 6) g) (at + 7) h
     ≡ written l at (a ∷ b ∷ c ∷ d ∷ e ∷ f ∷ g ∷ h ∷ [])
 eight-stores l at a b c d e f g h room =
     rw (add-one, add-two, add-three, add-four, add-five, add-six, add-seven)

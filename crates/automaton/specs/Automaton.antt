@@ -46,7 +46,8 @@ unfoldable pub carries : State → ℕ → Condition → Bool
 carries S v k =
     elim (eqb (k .form) 0) [
       | true ↦ eqb (k .variable) v
-      | false ↦ (eqb (k .variable) v && (eqb (k .variable2) v || S (k .variable2))) || (eqb (k .variable2) v && S (k .variable))
+      | false ↦ (eqb (k .variable) v && (eqb (k .variable2) v || S (k .variable2)))
+          || (eqb (k .variable2) v && S (k .variable))
     ]
 
 -- ## The listing

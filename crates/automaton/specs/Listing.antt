@@ -1,4 +1,5 @@
--- What the listing of the automaton promises, from the bytes of the pattern to the answer and the bytes of the slice lent.
+-- What the listing of the automaton promises, from the bytes of the pattern to the answer and the bytes of
+-- the slice lent.
 use mathlib.Core.Path.{_≡_}
 use mathlib.Core.List.{List, [], _∷_, _++_}
 use Prim.Native.Nat.{ℕ, _-_, _*_, _/_, _≤_, _<_}

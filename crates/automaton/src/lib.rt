@@ -1,5 +1,5 @@
-// The states and the steps of a checked pattern's automaton, and its listing. A state is a number: variable j has weight
-// 2^j.
+// The states and the steps of a checked pattern's automaton, and its listing. A state is a number: variable j
+// has weight 2^j.
 ghost use mathlib.Core.Path.{_≡_};
 ghost use mathlib.Core.Bool.{not, _&&_};
 ghost use Prim.Native.Nat.{_+_, _*_, _^_, _<_, _≤_};
@@ -10,7 +10,8 @@ ghost use Rattle.records.specs.Blocks.{refused};
 ghost use Rattle.patterns.specs.Patterns.{mostVariables, mostConditions};
 ghost use Rattle.patterns.specs.Checked.{setOf, conditionAt, InOrder};
 ghost use Rattle.automaton.specs.Filtering.{implies, all};
-ghost use Rattle.automaton.specs.Automaton.{variablesOf, stateOf, opens, loops, leaves, marked, carries, isState, carried, stepWord};
+ghost use Rattle.automaton.specs.Automaton.{variablesOf, stateOf, opens, loops, leaves, marked, carries, isState};
+ghost use Rattle.automaton.specs.Automaton.{carried, stepWord};
 ghost use Rattle.automaton.specs.Listing.{stepBytes, wordBytes, allZero, ListingPromise};
 ghost use Rattle.automaton.specs.Steps.{stepOn, stepsFrom, stepsAt, steps, sinkOf, put, puts};
 use patterns::Condition;

@@ -2,8 +2,8 @@
 //
 // Standard input is the table, a case to a row:
 //   block HEX..                  a block of these bytes
-//   events N EXTRA PLACE BYTE    a block of N events at the times 1, 2, .., then EXTRA bytes of 0, and BYTE set at PLACE
-//                                (a number that is left out is 0)
+//   events N EXTRA PLACE BYTE    a block of N events at the times 1, 2, .., then EXTRA bytes of 0, and BYTE set at
+//                                PLACE (a number that is left out is 0)
 //   pattern HEX..                a pattern of these bytes
 // Any other row, as one that begins with #, is written as it is.
 mod block_rows;

@@ -1,6 +1,7 @@
-// The rows of patterns. What is written of one: code, place, n, c, duration, and whether all places beyond the counts are 0
-// (of a refused pattern, whose counts are 0, these are all its places). Then of each variable the set number, with a + for
-// a group variable, and of each condition variable.attribute, operator, form, second variable.second attribute, constant.
+// The rows of patterns. What is written of one: code, place, n, c, duration, and whether all places beyond the counts
+// are 0 (of a refused pattern, whose counts are 0, these are all its places). Then of each variable the set number,
+// with a + for a group variable, and of each condition variable.attribute, operator, form, second variable.second
+// attribute, constant.
 ghost use Prim.Native.Nat.{_<_};
 ghost use Rattle.patterns.specs.Patterns.{mostVariables, mostConditions};
 use patterns::Checked;

@@ -1,5 +1,5 @@
--- What each function that puts readings out adds: one extension, all of a reading's, what it becomes, and what all become.
--- Assumes nothing.
+-- What each function that puts readings out adds: one extension, all of a reading's, what it becomes, and what all
+-- become. Assumes nothing.
 use mathlib.Core.Path.{_≡_, refl, sym, ap, _∙_}
 use mathlib.Core.Bool.{Bool, true, false}
 use mathlib.Core.List.{List, [], _∷_, _++_, append-nil, append-assoc}
@@ -14,13 +14,15 @@ use Rattle.firing.specs.Firing.{leavesBy, agreesBy}
 use Rattle.forward.specs.Live.{oneBy, firedBy, extendBy, unbound, stepBy, firstBy, begunBy}
 use Rattle.forward.specs.Memory.{Apart, Added}
 use Rattle.forward.proofs.Parts.{partAt, part-slot}
-use Rattle.forward.proofs.Steps.{one-fires, one-stays, one-fails, extend-fired, extend-kept, first-fires, first-stays, begun-fired}
+use Rattle.forward.proofs.Steps.{one-fires, one-stays, one-fails, extend-fired, extend-kept, first-fires}
+use Rattle.forward.proofs.Steps.{first-stays, begun-fired}
 use Rattle.forward.proofs.Memory.{added-none, added-trans, slot-kept}
 
 -- ## Part by part
 
 -- of `all` those before `rest` were put out
-pub record Partly (old new : List ℕ) (dst limit t : ℕ) (o : Bool) (t′ : ℕ) (o′ : Bool) (all rest : List Held) : Type 0 where
+pub record Partly (old new : List ℕ) (dst limit t : ℕ) (o : Bool) (t′ : ℕ) (o′ : Bool)
+    (all rest : List Held) : Type 0 where
   pub done : List Held
   pub added : Added old new dst limit t o t′ o′ done
   pub whole : all ≡ done ++ rest
@@ -69,7 +71,8 @@ module _ (plan bytes : List ℕ) (i : ℕ) where
 
   module _ (v : ℕ) (h : Held) where
     pub added-one :
-        {w w′ : List ℕ} {dst limit t t′ : ℕ} {o o′ : Bool} → leavesBy plan (h .state) v ≡ true → agreesBy plan bytes i v h ≡ true
+        {w w′ : List ℕ} {dst limit t t′ : ℕ} {o o′ : Bool} → leavesBy plan (h .state) v ≡ true
+        → agreesBy plan bytes i v h ≡ true
         → Added w w′ dst limit t o t′ o′ (grow i v h ∷ [])
         → Added w w′ dst limit t o t′ o′ (oneBy plan bytes i v h)
     added-one e f p = rw (one-fires plan bytes i h v e f) p
@@ -78,7 +81,9 @@ module _ (plan bytes : List ℕ) (i : ℕ) where
       pub added-stays : leavesBy plan (h .state) v ≡ false → Added w w dst limit t o t o (oneBy plan bytes i v h)
       added-stays e = rw (one-stays plan bytes i h v e) (added-none w dst limit t o)
 
-      pub added-fails : leavesBy plan (h .state) v ≡ true → agreesBy plan bytes i v h ≡ false → Added w w dst limit t o t o (oneBy plan bytes i v h)
+      pub added-fails :
+          leavesBy plan (h .state) v ≡ true → agreesBy plan bytes i v h ≡ false
+          → Added w w dst limit t o t o (oneBy plan bytes i v h)
       added-fails e f = rw (one-fails plan bytes i h v e f) (added-none w dst limit t o)
 
   module _ (can : ℕ) where
@@ -105,7 +110,9 @@ module _ (plan bytes : List ℕ) (i : ℕ) where
 
     -- ## The live readings one by one
 
-    pub all-start : (w : List ℕ) (dst limit src : ℕ) → Added w w dst limit 0 false 0 false (collect (extendBy plan bytes i can) (slotsAt w src 0))
+    pub all-start :
+        (w : List ℕ) (dst limit src : ℕ)
+        → Added w w dst limit 0 false 0 false (collect (extendBy plan bytes i can) (slotsAt w src 0))
     unfolding slotsAt collect
     all-start w dst limit src = added-none w dst limit 0 false
 
@@ -114,7 +121,8 @@ module _ (plan bytes : List ℕ) (i : ℕ) where
     collect-one f h = append-nil (f h)
 
     pub all-turn :
-        {w₀ w w′ : List ℕ} {dst limit t t′ : ℕ} {o o′ : Bool} (src count k : ℕ) → Apart src (src + slotBytes * count) dst limit → k < count
+        {w₀ w w′ : List ℕ} {dst limit t t′ : ℕ} {o o′ : Bool} (src count k : ℕ)
+        → Apart src (src + slotBytes * count) dst limit → k < count
         → Added w₀ w dst limit 0 false t o (collect (extendBy plan bytes i can) (slotsAt w₀ src k))
         → Added w w′ dst limit t o t′ o′ (extendBy plan bytes i can (heldIn (slotAt w (src + slotBytes * k))))
         → Added w₀ w′ dst limit 0 false t′ o′ (collect (extendBy plan bytes i can) (slotsAt w₀ src (k + 1)))
@@ -128,7 +136,8 @@ module _ (plan bytes : List ℕ) (i : ℕ) where
 
     -- then those that begin
     pub added-step :
-        {a b c : List ℕ} {dst limit t t′ : ℕ} {o o′ : Bool} (l : List Held) → Added a b dst limit 0 false t o (collect (extendBy plan bytes i can) l)
+        {a b c : List ℕ} {dst limit t t′ : ℕ} {o o′ : Bool} (l : List Held)
+        → Added a b dst limit 0 false t o (collect (extendBy plan bytes i can) l)
         → Added b c dst limit t o t′ o′ (begunBy plan i can)
         → Added a c dst limit 0 false t′ o′ (stepBy plan bytes i can l)
     unfolding stepBy
@@ -143,5 +152,7 @@ module _ (plan : List ℕ) (i v : ℕ) where
       → Added w w′ dst limit t o t′ o′ (firstBy plan i v)
   added-first none e f p = rw (first-fires plan i v f) (rw e at p)
 
-  pub added-none-first : {w : List ℕ} {dst limit t : ℕ} {o : Bool} → leavesBy plan 0 v ≡ false → Added w w dst limit t o t o (firstBy plan i v)
+  pub added-none-first :
+      {w : List ℕ} {dst limit t : ℕ} {o : Bool} → leavesBy plan 0 v ≡ false
+      → Added w w dst limit t o t o (firstBy plan i v)
   added-none-first {w} {dst} {limit} {t} {o} e = rw (first-stays plan i v e) (added-none w dst limit t o)

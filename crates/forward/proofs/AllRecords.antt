@@ -38,7 +38,8 @@ use Rattle.forward.proofs.Parts.{length-slotAt}
 use Rattle.forward.proofs.TooLong.{slots-short, slots-short-of}
 use Rattle.forward.proofs.Halves.{start-in}
 use Rattle.forward.proofs.HeldByRule.{known, lines-held}
-use Rattle.forward.proofs.OneRecord.{slot-holds, slot-mem, gone-le, closing-held, next-held, long-met, short-live, live-short, live-gap}
+use Rattle.forward.proofs.OneRecord.{slot-holds, slot-mem, gone-le, closing-held, next-held, long-met}
+use Rattle.forward.proofs.OneRecord.{short-live, live-short, live-gap}
 
 -- ## The scan, record by record
 
@@ -81,7 +82,8 @@ peak-more p B k = refl
 
 -- ## What is known before record i
 
-pub record Going (p : Pattern) (bytes : List ℕ) (limit : ℕ) (lent : List ℕ) (i : ℕ) (work result : List ℕ) (half start count : ℕ) (over : Bool) (used readings : ℕ) (short : Bool) (most : ℕ) : Type 0 where
+pub record Going (p : Pattern) (bytes : List ℕ) (limit : ℕ) (lent : List ℕ) (i : ℕ) (work result : List ℕ)
+    (half start count : ℕ) (over : Bool) (used readings : ℕ) (short : Bool) (most : ℕ) : Type 0 where
   pub scans :
       (n : ℕ) → i + n ≡ suc (length (recordsOf bytes))
       → forward p (recordsOf bytes) limit (length lent / 2) ≡ scan p (recordsOf bytes) limit (length lent / 2) i n
@@ -108,7 +110,8 @@ told-none lent =
     }
 
 pub going-start :
-    (p : Pattern) (bytes : List ℕ) (limit : ℕ) (lent work : List ℕ) → limit ≤ mostLive → slotBytes * limit + slotBytes * limit ≤ length work
+    (p : Pattern) (bytes : List ℕ) (limit : ℕ) (lent work : List ℕ) → limit ≤ mostLive
+    → slotBytes * limit + slotBytes * limit ≤ length work
     → Going p bytes limit lent 0 work lent 0 0 0 false 0 0 false 0
 unfolding live closed peak slotsAt forward
 going-start p bytes limit lent work few room =
@@ -214,7 +217,8 @@ module _ {p : Pattern} {plan bytes : List ℕ} (q : Prepared p plan bytes) {limi
 
       module _ {mark full : ℕ} (isMark : mark ≡ markBy bytes i) (isFull : full ≡ 2 ^ p .n - 1) {result′ : List ℕ}
           {used′ readings′ : ℕ} {short′ : Bool}
-          (wrote : Wrote result result′ used readings short used′ readings′ short′ (linesBy full mark (slotsAt work start gone))) where
+          (wrote : Wrote result result′ used readings short used′ readings′ short′
+          (linesBy full mark (slotsAt work start gone))) where
         next-told : Told lent result′ used′ readings′ short′ (closed p B (suc i))
         next-told =
             let e : closed p B i ++ linesBy full mark (slotsAt work start gone) ≡ closed p B (suc i) =
@@ -237,7 +241,8 @@ module _ {p : Pattern} {plan bytes : List ℕ} (q : Prepared p plan bytes) {limi
         next can = stepBy plan bytes i can (slotsAt work (start + slotBytes * gone) (count - gone))
 
         module _ {can : ℕ} (isCan : can ≡ canAt plan (p .n) (p .c) bytes i)
-            {work′ : List ℕ} {half′ start′ count′ : ℕ} {over′ : Bool} (moved : Moved work work′ limit half′ start′ count′ over′ (next can))
+            {work′ : List ℕ} {half′ start′ count′ : ℕ} {over′ : Bool}
+            (moved : Moved work work′ limit half′ start′ count′ over′ (next can))
             (roomy : short′ ≡ false) where
           is-live : next can ≡ map holding (live p B (suc i))
           is-live =
@@ -293,7 +298,8 @@ module _ {p : Pattern} {plan bytes : List ℕ} (q : Prepared p plan bytes) {limi
 
   module _ (h : recordCount bytes ≤ i) (upTo : i ≤ recordCount bytes) {full : ℕ} (isFull : full ≡ 2 ^ p .n - 1)
       {result′ : List ℕ} {used′ readings′ : ℕ} {short′ : Bool}
-      (wrote : Wrote result result′ used readings short used′ readings′ short′ (linesBy full endMark (slotsAt work start count))) where
+      (wrote : Wrote result result′ used readings short used′ readings′ short′
+      (linesBy full endMark (slotsAt work start count))) where
     at-end : i ≡ length B
     at-end = omega (arith, length-records bytes)
 
@@ -335,7 +341,8 @@ module _ {p : Pattern} {plan bytes : List ℕ} (q : Prepared p plan bytes) {limi
     end-done e = ends ∙ scan-on p B limit lentRoom (length B) 0 (met-11 p B limit lentRoom (length B) ∙ sym (all-told .fits) ∙ e) no-9 no-10
 
     pub end-ran :
-        (answer : Answer) → short′ ≡ false → answer ≡ record { code = 0; place = 0; used = used′ / 2; readings = readings′; peak = most }
+        (answer : Answer) → short′ ≡ false
+        → answer ≡ record { code = 0; place = 0; used = used′ / 2; readings = readings′; peak = most }
         → Ran p bytes limit lent result′ answer
     end-ran answer e a =
         let used-is = all-told .used-is e in
@@ -356,7 +363,8 @@ module _ {p : Pattern} {plan bytes : List ℕ} (q : Prepared p plan bytes) {limi
         }
 
 pub ran-refused :
-    (p : Pattern) (bytes : List ℕ) (limit : ℕ) (lent result : List ℕ) (answer : Answer) (code place : ℕ) → answer ≡ refused (suc code) place
+    (p : Pattern) (bytes : List ℕ) (limit : ℕ) (lent result : List ℕ) (answer : Answer) (code place : ℕ)
+    → answer ≡ refused (suc code) place
     → forward p (recordsOf bytes) limit (length lent / 2) ≡ refusedWith (length lent / 2) (suc code) place
     → Ran p bytes limit lent result answer
 ran-refused p bytes limit lent result answer code place a e =

@@ -19,7 +19,8 @@ use Rattle.patterns.proofs.InOrder.{accepted-in-order}
 use Rattle.rule.specs.Rule.{pack}
 use Rattle.rule.specs.Promises.{Outcome, Forward}
 use Rattle.rule.specs.Computed.{forward}
-use Rattle.rule.specs.Calls.{inputAnswer, patternIn, blockIn, zeros, roomIn, resultOf, mostLive, workPerReading, LimitInOrder, ForwardCall, refused-input, refused-limit, answered}
+use Rattle.rule.specs.Calls.{inputAnswer, patternIn, blockIn, zeros, roomIn, resultOf, mostLive, workPerReading}
+use Rattle.rule.specs.Calls.{LimitInOrder, ForwardCall, refused-input, refused-limit, answered}
 use Rattle.rule.proofs.ForwardAnswers.{forward-is}
 use Rattle.rule.proofs.Inputs.{input-pattern, input-block, input-in-order, times-never-fall}
 use Rattle.slots.proofs.Results.{length-bytesOf, bytesOf-append, take-written-all, length-written}
@@ -38,7 +39,8 @@ zero-bytes (suc k) =
 -- a result that holds the numbers and then 0
 result-of :
     (lent : ℕ) (numbers : List ℕ) → length numbers ≤ lent / 2
-    → bytesOf numbers ++ replicate (lent - 2 * length numbers) 0 ≡ resultOf lent (numbers ++ replicate (lent / 2 - length numbers) 0)
+    → bytesOf numbers ++ replicate (lent - 2 * length numbers) 0
+    ≡ resultOf lent (numbers ++ replicate (lent / 2 - length numbers) 0)
 result-of lent numbers h =
     let spare : ℕ = lent / 2 - length numbers in
     let all : List ℕ = numbers ++ replicate spare 0 in
@@ -98,16 +100,19 @@ limit-good limit lent e =
 
 -- ## The promise
 
-module _ (pattern block : List ℕ) (limit lentWork lentResult : ℕ) (answer : Answer) (work result : List ℕ) (w : work ≡ zeros lentWork) where
+module _ (pattern block : List ℕ) (limit lentWork lentResult : ℕ) (answer : Answer) (work result : List ℕ)
+    (w : work ≡ zeros lentWork) where
   pub call-pattern :
-      ¬ (patternAnswer pattern .code ≡ 0) → answer ≡ refused (patternAnswer pattern .code) (patternAnswer pattern .place) → result ≡ zeros lentResult
+      ¬ (patternAnswer pattern .code ≡ 0)
+      → answer ≡ refused (patternAnswer pattern .code) (patternAnswer pattern .place) → result ≡ zeros lentResult
       → ForwardCall pattern block limit lentWork lentResult answer work result
   call-pattern n e r =
       let i = input-pattern pattern block n in
       refused-input (λ z. n (sym (ap (λ (a : Answer). a .code) i) ∙ z)) (e ∙ sym i) w r
 
   pub call-block :
-      patternAnswer pattern .code ≡ 0 → ¬ (blockAnswer block .code ≡ 0) → answer ≡ blockAnswer block → result ≡ zeros lentResult
+      patternAnswer pattern .code ≡ 0 → ¬ (blockAnswer block .code ≡ 0) → answer ≡ blockAnswer block
+      → result ≡ zeros lentResult
       → ForwardCall pattern block limit lentWork lentResult answer work result
   call-block p n e r =
       let i = input-block pattern block p in
@@ -122,8 +127,12 @@ module _ (pattern block : List ℕ) (limit lentWork lentResult : ℕ) (answer : 
         → ForwardCall pattern block limit lentWork lentResult answer work result
     call-limit l e r = refused-limit accepts (limit-bad limit lentWork l) e w r
 
-    module _ (lent told : List ℕ) (size : length lent ≡ lentResult) (kept : length told ≡ lentResult) (l : limitBroken limit lentWork ≡ false) (ran : Ran (patternIn pattern) block limit lent told answer) (f : Finished answer told result) where
-      meets : (o : Outcome) → forward (patternIn pattern) (blockIn block) limit (length lent / 2) ≡ o → Forward (patternIn pattern) (blockIn block) limit (roomIn lentResult) o
+    module _ (lent told : List ℕ) (size : length lent ≡ lentResult) (kept : length told ≡ lentResult)
+        (l : limitBroken limit lentWork ≡ false) (ran : Ran (patternIn pattern) block limit lent told answer)
+        (f : Finished answer told result) where
+      meets :
+          (o : Outcome) → forward (patternIn pattern) (blockIn block) limit (length lent / 2) ≡ o
+          → Forward (patternIn pattern) (blockIn block) limit (roomIn lentResult) o
       meets o e =
           subst (λ (n : ℕ). Forward (patternIn pattern) (blockIn block) limit (n / 2) o) size
           (subst (λ (a : Outcome). Forward (patternIn pattern) (blockIn block) limit (length lent / 2) a) e
@@ -153,18 +162,24 @@ module _ (pattern block : List ℕ) (limit lentWork lentResult : ℕ) (answer : 
 
 -- ## From the calls of the checks
 
-pub pattern-checked : (pattern : List ℕ) (checked : Checked) → checked ≡ patternAnswer pattern → checked .code ≡ 0 → InOrder (checked .pattern)
+pub pattern-checked :
+    (pattern : List ℕ) (checked : Checked) → checked ≡ patternAnswer pattern → checked .code ≡ 0
+    → InOrder (checked .pattern)
 pattern-checked pattern checked e z =
     subst (λ (k : Checked). InOrder (k .pattern)) (sym e) (accepted-in-order pattern (ap (λ (k : Checked). k .code) (sym e) ∙ z))
 
 pub block-prepared :
-    (block : List ℕ) (judged : Answer) (p : Pattern) (plan : List ℕ) → InOrder p → IsPlan p plan → judged ≡ blockAnswer block → judged .code ≡ 0
+    (block : List ℕ) (judged : Answer) (p : Pattern) (plan : List ℕ) → InOrder p → IsPlan p plan
+    → judged ≡ blockAnswer block → judged .code ≡ 0
     → Prepared p plan block
 block-prepared block judged p plan o is e z =
     let b = Blocks.accepted-in-order block (ap (λ (a : Answer). a .code) (sym e) ∙ z) in
     record { pattern = o; made = is; times = times-never-fall block b; few = b .few }
 
-pub done-room : {p : Pattern} {bytes lent result : List ℕ} {limit : ℕ} {answer : Answer} → Ran p bytes limit lent result answer → answer .code ≡ 0 → 2 * answer .used ≤ length result
+pub done-room :
+    {p : Pattern} {bytes lent result : List ℕ} {limit : ℕ} {answer : Answer}
+    → Ran p bytes limit lent result answer → answer .code ≡ 0
+    → 2 * answer .used ≤ length result
 done-room {lent = lent} {answer = answer} ran z =
     let d = ran .succeeds z in
     let numbers : List ℕ = pack (d .lines) in
@@ -172,7 +187,8 @@ done-room {lent = lent} {answer = answer} ran z =
     omega (arith, d .used, d .fits)
 
 pub call-passed :
-    (pattern block : List ℕ) (limit lentWork : ℕ) (lent told : List ℕ) (answer passed : Answer) (work result : List ℕ) (checked : Checked) (judged : Answer) → work ≡ zeros lentWork
+    (pattern block : List ℕ) (limit lentWork : ℕ) (lent told : List ℕ) (answer passed : Answer) (work result : List ℕ)
+    (checked : Checked) (judged : Answer) → work ≡ zeros lentWork
     → checked ≡ patternAnswer pattern
     → checked .code ≡ 0
     → judged ≡ blockAnswer block

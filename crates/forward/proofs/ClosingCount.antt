@@ -13,15 +13,19 @@ module _ (bytes : List ℕ) (i duration : ℕ) (work : List ℕ) (src count : �
   abbrev pub lateAt : ℕ → Bool
   lateAt k = isLate bytes i duration (heldIn (slotAt work (src + slotBytes * k)))
 
-  pub stops-at : (k : ℕ) → k < count → ((j : ℕ) → j < k → lateAt j ≡ true) → lateAt k ≡ false → k ≡ firstInTime bytes i duration work src count
+  pub stops-at :
+      (k : ℕ) → k < count → ((j : ℕ) → j < k → lateAt j ≡ true) → lateAt k ≡ false
+      → k ≡ firstInTime bytes i duration work src count
   unfolding firstInTime
   stops-at k h f e = sym (first-at (λ j. not (lateAt j)) count k h (λ j l. ap not (f j l)) (ap not e))
 
-  pub stops-never : (k : ℕ) → count ≤ k → ((j : ℕ) → j < k → lateAt j ≡ true) → count ≡ firstInTime bytes i duration work src count
+  pub stops-never :
+      (k : ℕ) → count ≤ k → ((j : ℕ) → j < k → lateAt j ≡ true) → count ≡ firstInTime bytes i duration work src count
   unfolding firstInTime
   stops-never k h f = sym (first-none (λ j. not (lateAt j)) count (λ j l. ap not (f j (omega arith))))
 
-  pub gone-event : isEventBy bytes i ≡ true → goneBy bytes i duration work src count ≡ firstInTime bytes i duration work src count
+  pub gone-event :
+      isEventBy bytes i ≡ true → goneBy bytes i duration work src count ≡ firstInTime bytes i duration work src count
   unfolding goneBy
   gone-event e = rw (e, goneBy)
 

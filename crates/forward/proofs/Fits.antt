@@ -10,5 +10,6 @@ use Rattle.forward.proofs.Memory.{slot-kept}
 
 module _ {old new plan bytes : List ℕ} {i low high dst limit : ℕ} (apart : Apart low high dst limit)
     (outside : Outside old new dst (dst + slotBytes * limit)) where
-  pub fit-kept : (at : ℕ) → low ≤ at → at + slotBytes ≤ high → Fit plan bytes i (slotAt old at) → Fit plan bytes i (slotAt new at)
+  pub fit-kept :
+      (at : ℕ) → low ≤ at → at + slotBytes ≤ high → Fit plan bytes i (slotAt old at) → Fit plan bytes i (slotAt new at)
   fit-kept at h k fit = subst (λ (s : List ℕ). Fit plan bytes i s) (sym (slot-kept apart old new at h k outside)) fit

@@ -1,5 +1,5 @@
--- The live readings stand in one half of working memory, and what they become in the other; where nothing moves they stay.
--- Assumes nothing.
+-- The live readings stand in one half of working memory, and what they become in the other; where nothing moves they
+-- stay. Assumes nothing.
 use mathlib.Core.Path.{_≡_, refl, sym, ap, _∙_}
 use mathlib.Core.Logic.{_⊎_, ⊎-elim, inl, inr}
 use mathlib.Core.Bool.{Bool, false}
@@ -37,7 +37,8 @@ module _ {lent limit half start count : ℕ} (s : Stands lent limit half start c
   other-side = ⊎-elim (λ (e : half ≡ 0). inr (omega arith)) (λ (e : half ≡ slotBytes * limit). inl (omega arith)) (s .side)
 
 pub moved-idle :
-    {work : List ℕ} {can limit half start count : ℕ} {over : Bool} (plan bytes : List ℕ) (i : ℕ) → can ≡ 0 → Stands (length work) limit half start count
+    {work : List ℕ} {can limit half start count : ℕ} {over : Bool} (plan bytes : List ℕ) (i : ℕ) → can ≡ 0
+    → Stands (length work) limit half start count
     → long (slotsAt work start count) ≡ false
     → over ≡ false
     → Moved work work limit half start count over (stepBy plan bytes i can (slotsAt work start count))
@@ -52,7 +53,8 @@ moved-idle {work} {can} {limit} {half} {start} {count} {over} plan bytes i z s l
     })
 
 pub moved-over :
-    {work new : List ℕ} {limit half start count t : ℕ} {o : Bool} {out : List Held} → Stands (length work) limit half start count
+    {work new : List ℕ} {limit half start count t : ℕ} {o : Bool} {out : List Held}
+    → Stands (length work) limit half start count
     → Added work new (slotBytes * limit - half) limit 0 false t o out
     → Moved work new limit (slotBytes * limit - half) (slotBytes * limit - half) t o out
 moved-over {work} {new} {limit} {half} s a =

@@ -1,5 +1,5 @@
--- One record on the readings that working memory holds is one record by the rule: what the live readings become, which of
--- them close, and which are full. Assumes nothing.
+-- One record on the readings that working memory holds is one record by the rule: what the live readings become, which
+-- of them close, and which are full. Assumes nothing.
 use mathlib.Core.Path.{_≡_, refl, sym, ap, ap₂, _∙_}
 use mathlib.Core.Bool.{Bool, true, false, not, _&&_}
 use mathlib.Core.List.{List, [], _∷_, _++_, map, map-map, List·Memᴰ, List·Memᴰ·head, List·Memᴰ·tail, List·Memᴰ·not-nil}
@@ -23,7 +23,8 @@ use Rattle.automaton.specs.Filtering.{filter, collect}
 use Rattle.automaton.proofs.Membership.{mem-filter, upto-below}
 use Rattle.automaton.proofs.All.{all-upto}
 use Rattle.automaton.proofs.Ordered.{Ordered}
-use Rattle.rule.specs.Rule.{Block, Binding, Reading, TimesNeverFall, behindEnd, recordIn, timeAt, startOf, lastOf, binds, fires, isFull, Before, sooner, smaller}
+use Rattle.rule.specs.Rule.{Block, Binding, Reading, TimesNeverFall, behindEnd, recordIn, timeAt, startOf, lastOf}
+use Rattle.rule.specs.Rule.{binds, fires, isFull, Before, sooner, smaller}
 use Rattle.rule.specs.Growth.{Partial, Live}
 use Rattle.rule.specs.Computed.{isEvent, inWindow, only, orElse, fired, extend, step, live, line, lines}
 use Rattle.rule.proofs.OnlyOrElse.{collect-same, collect-map}
@@ -37,7 +38,8 @@ use Rattle.firing.specs.Firing.{ownHolds, canBy, leavesBy, agreesBy, firesBy, R
 use Rattle.firing.proofs.FiresBy.{fires-by}
 use Rattle.forward.specs.Live.{firedBy, extendBy, unbound, stepBy, isEventBy, isLate, isFullBy, linesBy}
 use Rattle.forward.proofs.Lines.{map-append}
-use Rattle.forward.proofs.MapFilter.{filter-upto, filter-same, map-same, map-filter, map-collect, map-or-else, collect-only}
+use Rattle.forward.proofs.MapFilter.{filter-upto, filter-same, map-same, map-filter, map-collect, map-or-else}
+use Rattle.forward.proofs.MapFilter.{collect-only}
 
 -- ## Full readings
 
@@ -60,7 +62,9 @@ full-held p few r =
     (λ e. within-mask-of (λ u. true) state (p .n) (λ v l t. holding-bit r v (omega arith) ∙ every-true (binds r) (p .n) e v l))
     ∙ sym (all-upto (binds r) (p .n))
 
-pub lines-held : (p : Pattern) → p .n ≤ mostVariables → (mark : ℕ) (l : List Reading) → linesBy (2 ^ p .n - 1) mark (map holding l) ≡ lines p mark l
+pub lines-held :
+    (p : Pattern) → p .n ≤ mostVariables → (mark : ℕ) (l : List Reading)
+    → linesBy (2 ^ p .n - 1) mark (map holding l) ≡ lines p mark l
 unfolding linesBy lines holding
 lines-held p few mark l =
     ap (map (λ (h : Held). line mark (h .bindings)))
@@ -116,7 +120,8 @@ module _ (p : Pattern) (o : InOrder p) (plan : List ℕ) (is : IsPlan p plan) (b
 
     fired-variables :
         (r : Reading) → ReadBelow p i r
-        → filter (λ v. firesBy plan bytes i can v (holding r)) (upto 0 mostVariables) ≡ filter (λ v. fires p B r v i) (upto 0 (p .n))
+        → filter (λ v. firesBy plan bytes i can v (holding r)) (upto 0 mostVariables)
+        ≡ filter (λ v. fires p B r v i) (upto 0 (p .n))
     fired-variables r k =
         let few = o .few in
         filter-upto (λ v. firesBy plan bytes i can v (holding r)) (p .n) mostVariables few (λ v l. fails-behind v (holding r) l)
@@ -134,7 +139,8 @@ module _ (p : Pattern) (o : InOrder p) (plan : List ℕ) (is : IsPlan p plan) (b
         (λ v m. holding-grow r i v (omega (arith, upto-below 0 (p .n) (mem-filter (λ v. fires p B r v i) (upto 0 (p .n)) m .1))))
         ∙ sym (map-map holding grown chosen)
 
-    extend-held : (r : Reading) → ReadBelow p i r → extendBy plan bytes i can (holding r) ≡ map holding (orElse r (fired p B i r))
+    extend-held :
+        (r : Reading) → ReadBelow p i r → extendBy plan bytes i can (holding r) ≡ map holding (orElse r (fired p B i r))
     unfolding extendBy
     extend-held r k = ap (orElse (holding r)) (fired-held r k) ∙ map-or-else holding r (fired p B i r)
 
@@ -142,7 +148,8 @@ module _ (p : Pattern) (o : InOrder p) (plan : List ℕ) (is : IsPlan p plan) (b
     near : List Reading
     near = filter (λ r. inWindow p B r i) (live p B i)
 
-    old-held : collect (extendBy plan bytes i can) (map holding near) ≡ map holding (collect (extend p B i) (live p B i))
+    old-held :
+        collect (extendBy plan bytes i can) (map holding near) ≡ map holding (collect (extend p B i) (live p B i))
     unfolding near extend
     old-held =
         let goes : Reading → List Reading = λ r. orElse r (fired p B i r) in
@@ -157,7 +164,8 @@ module _ (p : Pattern) (o : InOrder p) (plan : List ℕ) (is : IsPlan p plan) (b
 
     pub step-held :
         isEvent B i ≡ true
-        → stepBy plan bytes i can (map holding (filter (λ r. inWindow p B r i) (live p B i))) ≡ map holding (live p B (suc i))
+        → stepBy plan bytes i can (map holding (filter (λ r. inWindow p B r i) (live p B i)))
+        ≡ map holding (live p B (suc i))
     unfolding stepBy live step only near
     step-held e =
         ap₂ _++_ old-held new-held
@@ -189,7 +197,8 @@ module _ (p : Pattern) (o : InOrder p) (plan : List ℕ) (is : IsPlan p plan) (b
     before-start r s (sooner l) = omega arith
     before-start r s (smaller e l) = omega arith
 
-    late-before : (r s : Reading) → Live p B s i → Before r s → not (inWindow p B s i) ≡ true → not (inWindow p B r i) ≡ true
+    late-before :
+        (r s : Reading) → Live p B s i → Before r s → not (inWindow p B s i) ≡ true → not (inWindow p B r i) ≡ true
     unfolding inWindow
     late-before r s l b e =
         by-order (timeAt B (startOf r) + p .duration) (timeAt B i)

@@ -34,7 +34,9 @@ pub wrote-none : (res : List ℕ) (u n : ℕ) (s : Bool) → u ≤ length res �
 wrote-none res u n s h k = record { behind = λ lent out t. rw append-nil t; size = refl; room = h; few = k }
 
 -- room that is short stays short
-pub wrote-still : (res : List ℕ) (u n : ℕ) (s : Bool) (xs : List Line) → s ≡ true → u ≤ length res → n ≤ u → Wrote res res u n s u n s xs
+pub wrote-still :
+    (res : List ℕ) (u n : ℕ) (s : Bool) (xs : List Line) → s ≡ true → u ≤ length res → n ≤ u
+    → Wrote res res u n s u n s xs
 wrote-still res u n s xs e h k =
     record {
       behind = λ lent out t.
@@ -52,7 +54,8 @@ wrote-still res u n s xs e h k =
     }
 
 pub wrote-short :
-    (res : List ℕ) (u n : ℕ) (s : Bool) (mark : ℕ) (r : Reading) → s ≡ false → u ≤ length res → n ≤ u → length res < u + 2 + 2 * length r
+    (res : List ℕ) (u n : ℕ) (s : Bool) (mark : ℕ) (r : Reading) → s ≡ false → u ≤ length res → n ≤ u
+    → length res < u + 2 + 2 * length r
     → Wrote res res u n s u n true (line mark r ∷ [])
 wrote-short res u n s mark r e h k l =
     record {
@@ -77,7 +80,8 @@ line-pack mark r = ap (λ (l : List ℕ). packed mark (length r) ∷ l) (sym (ap
 -- one line behind others
 line-told :
     (lent : List ℕ) (out : List Line) (mark : ℕ) (r : Reading)
-    → written (written lent 0 (bytesOf (pack out))) (2 * length (pack out)) (bytesOf (lineNumbers mark r)) ≡ written lent 0 (bytesOf (pack (out ++ (line mark r ∷ []))))
+    → written (written lent 0 (bytesOf (pack out))) (2 * length (pack out)) (bytesOf (lineNumbers mark r))
+    ≡ written lent 0 (bytesOf (pack (out ++ (line mark r ∷ []))))
 line-told lent out mark r =
     ap (λ (l : List ℕ). written (written lent 0 (bytesOf (pack out))) (2 * length (pack out)) (bytesOf l)) (line-pack mark r)
     ∙ ap (λ (k : ℕ). written (written lent 0 (bytesOf (pack out))) k (bytesOf (pack (line mark r ∷ [])))) (sym (zero-add (2 * length (pack out))))
@@ -88,7 +92,8 @@ length-line-bytes : (mark : ℕ) (r : Reading) → length (bytesOf (lineNumbers 
 length-line-bytes mark r = length-bytesOf (lineNumbers mark r) ∙ ap (λ (n : ℕ). 2 * suc n) (length-pack-bindings r) ∙ omega arith
 
 pub wrote-fits :
-    (res res′ : List ℕ) (u n : ℕ) (s : Bool) (mark : ℕ) (r : Reading) → s ≡ false → u ≤ length res → n ≤ u → u + 2 + 2 * length r ≤ length res
+    (res res′ : List ℕ) (u n : ℕ) (s : Bool) (mark : ℕ) (r : Reading) → s ≡ false → u ≤ length res → n ≤ u
+    → u + 2 + 2 * length r ≤ length res
     → res′ ≡ written res u (bytesOf (lineNumbers mark r))
     → Wrote res res′ u n s (u + 2 + 2 * length r) (n + 1) false (line mark r ∷ [])
 wrote-fits res res′ u n s mark r e h k l w =
@@ -140,13 +145,15 @@ module _ {A B : Type 0} where
   map-append f [] m = refl
   map-append f (a ∷ l) m = ap (λ (k : List B). f a ∷ k) (map-append f l m)
 
-pub lines-append : (full mark : ℕ) (l m : List Held) → linesBy full mark (l ++ m) ≡ linesBy full mark l ++ linesBy full mark m
+pub lines-append :
+    (full mark : ℕ) (l m : List Held) → linesBy full mark (l ++ m) ≡ linesBy full mark l ++ linesBy full mark m
 unfolding linesBy
 lines-append full mark l m =
     ap (map (λ (h : Held). line mark (h .bindings))) (filter-append (isFullBy full) l m)
     ∙ map-append (λ (h : Held). line mark (h .bindings)) (filter (isFullBy full) l) (filter (isFullBy full) m)
 
-pub lines-full : (full mark : ℕ) (h : Held) → isFullBy full h ≡ true → linesBy full mark (h ∷ []) ≡ line mark (h .bindings) ∷ []
+pub lines-full :
+    (full mark : ℕ) (h : Held) → isFullBy full h ≡ true → linesBy full mark (h ∷ []) ≡ line mark (h .bindings) ∷ []
 unfolding linesBy filter keep
 lines-full full mark h e = rw e
 
@@ -161,7 +168,8 @@ unfolding slotsAt linesBy filter
 wrote-start res work u n s full mark src h k = wrote-none res u n s h k
 
 pub wrote-turn :
-    {res res₁ res₂ : List ℕ} {u n u₁ n₁ u₂ n₂ : ℕ} {s s₁ s₂ : Bool} (work : List ℕ) (full mark src k : ℕ) (slot : List ℕ) → slot ≡ slotAt work (src + slotBytes * k)
+    {res res₁ res₂ : List ℕ} {u n u₁ n₁ u₂ n₂ : ℕ} {s s₁ s₂ : Bool} (work : List ℕ) (full mark src k : ℕ)
+    (slot : List ℕ) → slot ≡ slotAt work (src + slotBytes * k)
     → Wrote res res₁ u n s u₁ n₁ s₁ (linesBy full mark (slotsAt work src k))
     → Wrote res₁ res₂ u₁ n₁ s₁ u₂ n₂ s₂ (linesBy full mark (heldIn slot ∷ []))
     → Wrote res res₂ u n s u₂ n₂ s₂ (linesBy full mark (slotsAt work src (k + 1)))
@@ -176,13 +184,15 @@ unfolding isFullBy heldIn
 full-by full state slot e = ap (within full) e
 
 pub wrote-full :
-    {res res′ : List ℕ} {u n u′ n′ : ℕ} {s s′ : Bool} (full mark : ℕ) (slot : List ℕ) (state : ℕ) → state ≡ stateIn slot → within full state ≡ true
+    {res res′ : List ℕ} {u n u′ n′ : ℕ} {s s′ : Bool} (full mark : ℕ) (slot : List ℕ) (state : ℕ) → state ≡ stateIn slot
+    → within full state ≡ true
     → Wrote res res′ u n s u′ n′ s′ (line mark (heldIn slot .bindings) ∷ [])
     → Wrote res res′ u n s u′ n′ s′ (linesBy full mark (heldIn slot ∷ []))
 wrote-full full mark slot state e t p = rw (lines-full full mark (heldIn slot) (sym (full-by full state slot e) ∙ t)) p
 
 pub wrote-part :
-    (res : List ℕ) (u n : ℕ) (s : Bool) (full mark : ℕ) (slot : List ℕ) (state : ℕ) → state ≡ stateIn slot → within full state ≡ false
+    (res : List ℕ) (u n : ℕ) (s : Bool) (full mark : ℕ) (slot : List ℕ) (state : ℕ) → state ≡ stateIn slot
+    → within full state ≡ false
     → u ≤ length res → n ≤ u
     → Wrote res res u n s u n s (linesBy full mark (heldIn slot ∷ []))
 wrote-part res u n s full mark slot state e t h k =

@@ -47,7 +47,9 @@ module _ {A : Type 0} where
     abbrev Later : A → A → Type 0
     Later a b = f b ≡ true → f a ≡ true
 
-    behind : (x : A) (l : List A) → ((y : A) → List·Memᴰ y l → Later x y) → f x ≡ false → (y : A) → List·Memᴰ y l → f y ≡ false
+    behind :
+        (x : A) (l : List A) → ((y : A) → List·Memᴰ y l → Later x y) → f x ≡ false → (y : A) → List·Memᴰ y l
+        → f y ≡ false
     behind x l h e y m = by-test (f y) (λ t. absurd (true≢false (sym (h y m t) ∙ e))) (λ t. t)
 
     pub front-take :
@@ -78,7 +80,8 @@ module _ {A : Type 0} where
         ∙ front-drop l m d (o .1) (le-of-suc-le-suc h) (λ k q. g (suc k) (omega arith)) (λ q. s (omega arith))
 
 -- where none behind the first n passes
-pub filter-upto : (f : ℕ → Bool) (n m : ℕ) → n ≤ m → ((v : ℕ) → n ≤ v → f v ≡ false) → filter f (upto 0 m) ≡ filter f (upto 0 n)
+pub filter-upto :
+    (f : ℕ → Bool) (n m : ℕ) → n ≤ m → ((v : ℕ) → n ≤ v → f v ≡ false) → filter f (upto 0 m) ≡ filter f (upto 0 n)
 unfolding filter keep
 filter-upto f n m h g =
     let e : n + (m - n) ≡ m = omega arith in
@@ -104,7 +107,9 @@ module _ {A B : Type 0} (f : A → B) where
   map-filter t [] = refl
   map-filter t (a ∷ l) = go (t (f a)) (map-filter t l)
     where
-      go : (s : Bool) {r : List B} → r ≡ map f (filter (λ a. t (f a)) l) → keep s (f a) r ≡ map f (keep s a (filter (λ a. t (f a)) l))
+      go :
+          (s : Bool) {r : List B} → r ≡ map f (filter (λ a. t (f a)) l)
+          → keep s (f a) r ≡ map f (keep s a (filter (λ a. t (f a)) l))
       go true e = ap (λ (m : List B). f a ∷ m) e
       go false e = e
 
@@ -139,7 +144,9 @@ module _ {A B : Type 0} (f : A → B) where
   any-map t (a ∷ l) = ap (λ (s : Bool). t (f a) || s) (any-map t l)
 
 -- what an entry gives where the flag says so
-pub collect-only : {A C : Type 0} (t : A → Bool) (g : A → List C) (l : List A) → collect (λ a. only (t a) (g a)) l ≡ collect g (filter t l)
+pub collect-only :
+    {A C : Type 0} (t : A → Bool) (g : A → List C) (l : List A)
+    → collect (λ a. only (t a) (g a)) l ≡ collect g (filter t l)
 unfolding collect only filter keep
 collect-only t g [] = refl
 collect-only {C = C} t g (a ∷ l) = go (t a) (collect-only t g l)

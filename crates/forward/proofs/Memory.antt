@@ -31,14 +31,17 @@ drop-from : (high at : ℕ) (w : List ℕ) → high ≤ at → drop (at - high) 
 drop-from high at w h =
     let e : high + (at - high) ≡ at = omega arith in drop-drop (at - high) high w ∙ ap (λ (k : ℕ). drop k w) e
 
-pub outside-wider : (old new : List ℕ) (low high low′ high′ : ℕ) → Outside old new low high → low′ ≤ low → high ≤ high′ → Outside old new low′ high′
+pub outside-wider :
+    (old new : List ℕ) (low high low′ high′ : ℕ) → Outside old new low high → low′ ≤ low → high ≤ high′
+    → Outside old new low′ high′
 outside-wider old new low high low′ high′ o h k =
     record {
       before = sym (take-take low′ low new h) ∙ ap (λ (l : List ℕ). take low′ l) (o .before) ∙ take-take low′ low old h;
       after = sym (drop-from high high′ new k) ∙ ap (λ (l : List ℕ). drop (high′ - high) l) (o .after) ∙ drop-from high high′ old k;
     }
 
-pub outside-written : (w : List ℕ) (at : ℕ) (bytes : List ℕ) → at ≤ length w → Outside w (written w at bytes) at (at + length bytes)
+pub outside-written :
+    (w : List ℕ) (at : ℕ) (bytes : List ℕ) → at ≤ length w → Outside w (written w at bytes) at (at + length bytes)
 outside-written w at bytes h =
     record { before = take-written w at bytes h at (omega arith); after = drop-written w at bytes h (at + length bytes) (omega arith) }
 
@@ -91,7 +94,8 @@ length-snoc out x t e = simp length-append (omega arith)
 
 -- a reading stored in the next slot
 added-stored :
-    (w slot : List ℕ) (dst limit t : ℕ) (o : Bool) → t < limit → dst + slotBytes * limit ≤ length w → length slot ≡ slotBytes
+    (w slot : List ℕ) (dst limit t : ℕ) (o : Bool) → t < limit → dst + slotBytes * limit ≤ length w
+    → length slot ≡ slotBytes
     → isLong (heldIn slot) ≡ false
     → Added w (written w (dst + slotBytes * t) slot) dst limit t o (t + 1) o (heldIn slot ∷ [])
 added-stored w slot dst limit t o h k n short =
@@ -138,13 +142,15 @@ added-put {w} {dst} {limit} {t} {o} slot h k n short =
 
 -- a reading stored in the next slot, then bound there
 pub added-bound :
-    {w slot first : List ℕ} {dst limit t : ℕ} {o : Bool} (i v : ℕ) (bound : List ℕ) → t < limit → dst + slotBytes * limit ≤ length w
+    {w slot first : List ℕ} {dst limit t : ℕ} {o : Bool} (i v : ℕ) (bound : List ℕ) → t < limit
+    → dst + slotBytes * limit ≤ length w
     → length slot ≡ slotBytes
     → countIn slot < mostBindings
     → first ≡ slot
     → heldIn bound ≡ grow i v (heldIn (partAt (putSlot w (dst + slotBytes * t) first) (dst + slotBytes * t)))
     → length bound ≡ slotBytes
-    → Added w (putSlot (putSlot w (dst + slotBytes * t) first) (dst + slotBytes * t) bound) dst limit t o (t + 1) o (grow i v (heldIn slot) ∷ [])
+    → Added w (putSlot (putSlot w (dst + slotBytes * t) first) (dst + slotBytes * t) bound) dst limit t o (t + 1) o
+    (grow i v (heldIn slot) ∷ [])
 added-bound {w} {slot} {first} {dst} {limit} {t} {o} i v bound h k n few same grown size =
     let at : ℕ = dst + slotBytes * t in
     let inside : at ≤ length w = omega arith in

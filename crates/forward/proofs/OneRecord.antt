@@ -33,7 +33,8 @@ use Rattle.forward.specs.Live.{unbound, stepBy, isLong, long, isEventBy,
 use Rattle.forward.specs.Memory.{firstInTime, goneBy}
 use Rattle.forward.proofs.Steps.{step-idle}
 use Rattle.forward.proofs.ClosingCount.{lateAt, gone-event, gone-gap, mark-event, mark-gap}
-use Rattle.forward.proofs.MapFilter.{getD-mem, getD-map, filter-same, any-same, any-map, map-take, map-drop, front-take, front-drop}
+use Rattle.forward.proofs.MapFilter.{getD-mem, getD-map, filter-same, any-same, any-map, map-take, map-drop}
+use Rattle.forward.proofs.MapFilter.{front-take, front-drop}
 use Rattle.forward.proofs.HeldByRule.{lines-held, step-held, event-held, late-is, live-late}
 
 slots-take : (work : List ℕ) (at m n : ℕ) → slotsAt work at m ≡ take m (slotsAt work at (m + n))
@@ -55,11 +56,14 @@ not-twice : (t : Bool) → not (not t) ≡ t
 not-twice true = refl
 not-twice false = refl
 
-pub can-event : (plan : List ℕ) (n c : ℕ) (bytes : List ℕ) (i : ℕ) → isEventBy bytes i ≡ true → canAt plan n c bytes i ≡ canBy plan n c bytes i
+pub can-event :
+    (plan : List ℕ) (n c : ℕ) (bytes : List ℕ) (i : ℕ) → isEventBy bytes i ≡ true
+    → canAt plan n c bytes i ≡ canBy plan n c bytes i
 unfolding canAt
 can-event plan n c bytes i e = rw (e, canAt)
 
-pub can-gap : (plan : List ℕ) (n c : ℕ) (bytes : List ℕ) (i : ℕ) → isEventBy bytes i ≡ false → canAt plan n c bytes i ≡ 0
+pub can-gap :
+    (plan : List ℕ) (n c : ℕ) (bytes : List ℕ) (i : ℕ) → isEventBy bytes i ≡ false → canAt plan n c bytes i ≡ 0
 unfolding canAt
 can-gap plan n c bytes i e = rw (e, canAt)
 
@@ -69,7 +73,9 @@ closing-event :
 unfolding closing
 closing-event p B k l e = rw (e, closing)
 
-closing-gap : (p : Pattern) (B : Block) (k : ℕ) (l : List Reading) → isEvent B k ≡ false → k < length B → closing p B k l ≡ lines p gapMark l
+closing-gap :
+    (p : Pattern) (B : Block) (k : ℕ) (l : List Reading) → isEvent B k ≡ false → k < length B
+    → closing p B k l ≡ lines p gapMark l
 unfolding closing
 closing-gap p B k l e h = rw (e, lt-ltb k (length B) h, closing)
 
@@ -97,7 +103,9 @@ module _ (p : Pattern) (o : InOrder p) (plan : List ℕ) (is : IsPlan p plan) (b
   pub slot-mem : (k : ℕ) → k < count → List·Memᴰ (getD (live p B i) k []) (live p B i)
   slot-mem k l = getD-mem (live p B i) k [] (omega (arith, count-live))
 
-  late-slot : (k : ℕ) → k < count → lateAt bytes i (p .duration) work src count k ≡ not (inWindow p B (getD (live p B i) k []) i)
+  late-slot :
+      (k : ℕ) → k < count
+      → lateAt bytes i (p .duration) work src count k ≡ not (inWindow p B (getD (live p B i) k []) i)
   late-slot k l =
       ap (isLate bytes i (p .duration)) (slot-holds k l)
       ∙ late-is p o plan is bytes rising i h (getD (live p B i) k []) (live-sound p B i (slot-mem k l))
@@ -200,7 +208,8 @@ module _ (p : Pattern) (o : InOrder p) (plan : List ℕ) (is : IsPlan p plan) (b
 
 -- ## A binding too many
 
-module _ (p : Pattern) (B : Block) (i : ℕ) (small : (r : Reading) → List·Memᴰ r (live p B i) → length r ≤ mostBindings) where
+module _ (p : Pattern) (B : Block) (i : ℕ)
+    (small : (r : Reading) → List·Memᴰ r (live p B i) → length r ≤ mostBindings) where
   abbrev Grown : Reading → Type 0
   Grown a = (length a ≤ mostBindings) ⊎ ((lastOf a ≡ i) × (length a ≤ suc mostBindings))
 
@@ -213,7 +222,9 @@ module _ (p : Pattern) (B : Block) (i : ℕ) (small : (r : Reading) → List·Me
   unfolding live step extend
   next-grown {a} m = go (List·Memᴰ·append-cases (collect (extend p B i) (live p B i)) (mem-only (isEvent B i) m .1))
     where
-      kept : (r : Reading) → length r ≤ mostBindings → ((a ≡ r) × (fired p B i r ≡ [])) ⊎ List·Memᴰ a (fired p B i r) → Grown a
+      kept :
+          (r : Reading) → length r ≤ mostBindings → ((a ≡ r) × (fired p B i r ≡ [])) ⊎ List·Memᴰ a (fired p B i r)
+          → Grown a
       kept r l (inl e) = inl (omega (arith, ap length (e .0)))
       kept r l (inr f) = grown r l f
 
@@ -223,7 +234,8 @@ module _ (p : Pattern) (B : Block) (i : ℕ) (small : (r : Reading) → List·Me
           kept (c .0) (small (c .0) (c .1)) (mem-or-else (c .0) (fired p B i (c .0)) (mem-only (inWindow p B (c .0) i) (c .2) .1))
       go (inr h) = grown [] (omega arith) h
 
-  one-test : (a : Reading) → Grown a → ltb mostBindings (length a) ≡ eqb (lastOf a) i && eqb (length a) (suc mostBindings)
+  one-test :
+      (a : Reading) → Grown a → ltb mostBindings (length a) ≡ eqb (lastOf a) i && eqb (length a) (suc mostBindings)
   one-test a (inl l) =
       le-ltb mostBindings (length a) l
       ∙ sym (ap (λ (t : Bool). eqb (lastOf a) i && t) (ne-eqb (length a) (suc mostBindings) (λ e. omega arith)) ∙ and-false (eqb (lastOf a) i))
@@ -239,7 +251,8 @@ module _ (p : Pattern) (B : Block) (i : ℕ) (small : (r : Reading) → List·Me
       ∙ any-same (λ (r : Reading). ltb mostBindings (length r)) (λ (r : Reading). eqb (lastOf r) i && eqb (length r) (suc mostBindings))
       (live p B (suc i)) (λ a m. one-test a (next-grown m))
 
-pub short-live : (l : List Reading) → long (map holding l) ≡ false → (r : Reading) → List·Memᴰ r l → length r ≤ mostBindings
+pub short-live :
+    (l : List Reading) → long (map holding l) ≡ false → (r : Reading) → List·Memᴰ r l → length r ≤ mostBindings
 unfolding long isLong holding
 short-live l e r m =
     by-order mostBindings (length r)
@@ -248,7 +261,8 @@ short-live l e r m =
     absurd (true≢false (sym found ∙ sym (any-map holding (λ (h : Held). ltb mostBindings (length (h .bindings))) l) ∙ e)))
     (λ k. k)
 
-pub live-short : (l : List Reading) → ((r : Reading) → List·Memᴰ r l → length r ≤ mostBindings) → long (map holding l) ≡ false
+pub live-short :
+    (l : List Reading) → ((r : Reading) → List·Memᴰ r l → length r ≤ mostBindings) → long (map holding l) ≡ false
 unfolding long isLong holding any
 live-short [] h = refl
 live-short (r ∷ l) h = ap₂ _||_ (le-ltb mostBindings (length r) (h r (List·Memᴰ·head refl))) (live-short l (λ s m. h s (List·Memᴰ·tail m)))

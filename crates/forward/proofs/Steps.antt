@@ -43,7 +43,9 @@ module _ (plan bytes : List ℕ) (i : ℕ) where
     length-fired can = length-made asked (λ v. grow i v h) mostVariables can
 
     module _ (v : ℕ) where
-      pub one-fires : leavesBy plan (h .state) v ≡ true → agreesBy plan bytes i v h ≡ true → oneBy plan bytes i v h ≡ grow i v h ∷ []
+      pub one-fires :
+          leavesBy plan (h .state) v ≡ true → agreesBy plan bytes i v h ≡ true
+          → oneBy plan bytes i v h ≡ grow i v h ∷ []
       unfolding oneBy keep
       one-fires e f = ap (λ (t : Bool). keep t (grow i v h) []) (λ j. e j && f j)
 
@@ -51,14 +53,16 @@ module _ (plan bytes : List ℕ) (i : ℕ) where
       unfolding oneBy keep
       one-stays e = ap (λ (t : Bool). keep (t && agreesBy plan bytes i v h) (grow i v h) []) e
 
-      pub one-fails : leavesBy plan (h .state) v ≡ true → agreesBy plan bytes i v h ≡ false → oneBy plan bytes i v h ≡ []
+      pub one-fails :
+          leavesBy plan (h .state) v ≡ true → agreesBy plan bytes i v h ≡ false → oneBy plan bytes i v h ≡ []
       unfolding oneBy keep
       one-fails e f = ap (λ (t : Bool). keep t (grow i v h) []) (λ j. e j && f j)
 
     -- ## Extensions, or the reading itself
 
     module _ (can : ℕ) where
-      pub extend-fired : 0 < length (firedBy plan bytes i can h) → extendBy plan bytes i can h ≡ firedBy plan bytes i can h
+      pub extend-fired :
+          0 < length (firedBy plan bytes i can h) → extendBy plan bytes i can h ≡ firedBy plan bytes i can h
       unfolding extendBy orElse
       extend-fired l = go (firedBy plan bytes i can h) l
         where

@@ -55,7 +55,9 @@ pub short-count : (slot : List ℕ) → isLong (heldIn slot) ≡ false → count
 unfolding isLong
 short-count slot h = omega (arith, length-heldIn slot, ltb-false mostBindings (length (heldIn slot .bindings)) h)
 
-pub slots-short : (work : List ℕ) (at n k : ℕ) → long (slotsAt work at n) ≡ false → k < n → isLong (heldIn (slotAt work (at + slotBytes * k))) ≡ false
+pub slots-short :
+    (work : List ℕ) (at n k : ℕ) → long (slotsAt work at n) ≡ false → k < n
+    → isLong (heldIn (slotAt work (at + slotBytes * k))) ≡ false
 unfolding slotsAt
 slots-short work at zero k h l = absurd (omega arith)
 slots-short work at (suc n) k h l =
@@ -66,7 +68,9 @@ slots-short work at (suc n) k h l =
     (λ m. let q : n ≡ k = omega arith in
     ap (λ (j : ℕ). isLong (heldIn (slotAt work (at + slotBytes * j)))) (sym q) ∙ sym (long-one last) ∙ e .1)
 
-pub slots-short-of : (work : List ℕ) (at n : ℕ) → ((k : ℕ) → k < n → isLong (heldIn (slotAt work (at + slotBytes * k))) ≡ false) → long (slotsAt work at n) ≡ false
+pub slots-short-of :
+    (work : List ℕ) (at n : ℕ) → ((k : ℕ) → k < n → isLong (heldIn (slotAt work (at + slotBytes * k))) ≡ false)
+    → long (slotsAt work at n) ≡ false
 unfolding slotsAt
 slots-short-of work at zero h = long-none
 slots-short-of work at (suc n) h =

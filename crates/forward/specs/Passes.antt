@@ -37,7 +37,8 @@ pub record Done (p : Pattern) (bytes : List ℕ) (limit : ℕ) (lent result : Li
 pub record Ran (p : Pattern) (bytes : List ℕ) (limit : ℕ) (lent result : List ℕ) (answer : Answer) : Type 0 where
   pub refuses :
       ¬ (answer .code ≡ 0)
-      → forward p (recordsOf bytes) limit (length lent / 2) ≡ record { answer = answer; numbers = replicate (length lent / 2) 0 }
+      → forward p (recordsOf bytes) limit (length lent / 2)
+      ≡ record { answer = answer; numbers = replicate (length lent / 2) 0 }
   pub succeeds : answer .code ≡ 0 → Done p bytes limit lent result answer
 
 -- the result after the call: what was told and then 0, or all 0 with a refusal

@@ -16,7 +16,8 @@ ghost use Rattle.slots.specs.Slots.{slotBytes, slotAt, slotsAt, heldIn, countIn
 ghost use Rattle.firing.specs.Plan.{Sound, Classed};
 ghost use Rattle.firing.specs.Firing.{Fit};
 ghost use Rattle.forward.specs.Flags.{isSet};
-ghost use Rattle.forward.specs.Live.{oneBy, firedBy, extendBy, firstBy, begunBy, stepBy, isLong, long, isEventBy, markBy, canAt, linesBy, isLate};
+ghost use Rattle.forward.specs.Live.{oneBy, firedBy, extendBy, firstBy, begunBy, stepBy, isLong, long, isEventBy};
+ghost use Rattle.forward.specs.Live.{markBy, canAt, linesBy, isLate};
 ghost use Rattle.forward.specs.Memory.{stepBound, Apart, Added, Ready, Begun, firstInTime, goneBy, Stands, Moved};
 ghost use Rattle.forward.specs.Lines.{Wrote};
 ghost use Rattle.forward.specs.Passes.{Prepared, Ran, Finished, limitBroken};
@@ -48,7 +49,8 @@ pub struct Tell {
 
 // Is record i more than the duration after the reading's first?
 fn is_late(block: &[u8], i: usize, duration: u64, slot: &[u8]) -> bool
-    requires { ⌜ (recordBytes * i + recordBytes ≤ length (now block)) × (length (now slot) ≡ slotBytes) × (1 ≤ countIn (now slot)) ⌝ }
+    requires { ⌜ (recordBytes * i + recordBytes ≤ length (now block)) × (length (now slot) ≡ slotBytes)
+        × (1 ≤ countIn (now slot)) ⌝ }
     requires { ⌜ recordBytes * startOf (heldIn (now slot) .bindings) + recordBytes ≤ length (now block) ⌝ }
     ensures { λ r. ⌜ r ≡ isLate (now (block .entry)) i duration (heldIn (now (slot .entry))) ⌝ }
 {
@@ -62,7 +64,8 @@ fn is_late(block: &[u8], i: usize, duration: u64, slot: &[u8]) -> bool
 
 // How many of the readings from src on, count of them, are late: they stand in front.
 fn count_late(work: &[u8], block: &[u8], i: usize, duration: u64, src: usize, count: usize) -> usize
-    requires { ⌜ (src + slotBytes * count ≤ length (now work)) × (recordBytes * i + recordBytes ≤ length (now block)) × Begun (now work) (now block) src count ⌝ }
+    requires { ⌜ (src + slotBytes * count ≤ length (now work)) × (recordBytes * i + recordBytes ≤ length (now block))
+        × Begun (now work) (now block) src count ⌝ }
     ensures { λ r. ⌜ r ≡ firstInTime (now (block .entry)) i duration (now (work .entry)) src count ⌝ }
 {
     let mut k = 0;
@@ -86,7 +89,8 @@ fn is_event(block: &[u8], i: usize) -> bool
 
 // How many of the readings close at record i: at a gap all, otherwise the late ones.
 fn count_gone(work: &[u8], block: &[u8], i: usize, duration: u64, src: usize, count: usize) -> usize
-    requires { ⌜ (src + slotBytes * count ≤ length (now work)) × (recordBytes * i + recordBytes ≤ length (now block)) × Begun (now work) (now block) src count ⌝ }
+    requires { ⌜ (src + slotBytes * count ≤ length (now work)) × (recordBytes * i + recordBytes ≤ length (now block))
+        × Begun (now work) (now block) src count ⌝ }
     ensures { λ r. ⌜ r ≡ goneBy (now (block .entry)) i duration (now (work .entry)) src count ⌝ }
 {
     if is_event(block, i) {
@@ -108,8 +112,11 @@ fn mark_at(block: &[u8], i: usize) -> u8
 
 // Reports one reading, or notes that the room is short.
 fn tell_one(result: &mut [u8], mark: u8, slot: &[u8], tell: Tell) -> Tell
-    requires { ⌜ (length (now slot) ≡ slotBytes) × (countIn (now slot) ≤ mostBindings) × (mark < 16) × (tell .used ≤ length (now result)) × (tell .readings ≤ tell .used) ⌝ }
-    ensures { λ r. ⌜ Wrote (now (result .entry)) (now (result .exit)) (tell .used) (tell .readings) (isSet (tell .short)) (r .used) (r .readings) (isSet (r .short)) (line mark (heldIn (now (slot .entry)) .bindings) ∷ []) ⌝ }
+    requires { ⌜ (length (now slot) ≡ slotBytes) × (countIn (now slot) ≤ mostBindings) × (mark < 16)
+        × (tell .used ≤ length (now result)) × (tell .readings ≤ tell .used) ⌝ }
+    ensures { λ r. ⌜ Wrote (now (result .entry)) (now (result .exit)) (tell .used)
+        (tell .readings) (isSet (tell .short)) (r .used) (r .readings) (isSet (r .short))
+        (line mark (heldIn (now (slot .entry)) .bindings) ∷ []) ⌝ }
 {
     if tell.short != 0 {
         return tell;
@@ -133,8 +140,11 @@ fn tell_one(result: &mut [u8], mark: u8, slot: &[u8], tell: Tell) -> Tell
 
 // Reports a reading that closes, if it is full.
 fn close_one(result: &mut [u8], full: u64, mark: u8, slot: &[u8], tell: Tell) -> Tell
-    requires { ⌜ (length (now slot) ≡ slotBytes) × (countIn (now slot) ≤ mostBindings) × (mark < 16) × (tell .used ≤ length (now result)) × (tell .readings ≤ tell .used) ⌝ }
-    ensures { λ r. ⌜ Wrote (now (result .entry)) (now (result .exit)) (tell .used) (tell .readings) (isSet (tell .short)) (r .used) (r .readings) (isSet (r .short)) (linesBy full mark (heldIn (now (slot .entry)) ∷ [])) ⌝ }
+    requires { ⌜ (length (now slot) ≡ slotBytes) × (countIn (now slot) ≤ mostBindings) × (mark < 16)
+        × (tell .used ≤ length (now result)) × (tell .readings ≤ tell .used) ⌝ }
+    ensures { λ r. ⌜ Wrote (now (result .entry)) (now (result .exit)) (tell .used)
+        (tell .readings) (isSet (tell .short)) (r .used) (r .readings) (isSet (r .short))
+        (linesBy full mark (heldIn (now (slot .entry)) ∷ [])) ⌝ }
 {
     if numbers::is_within(full, slots::state_of(slot)) {
         return tell_one(result, mark, slot, tell);
@@ -152,8 +162,11 @@ fn close_all(
     mark: u8,
     tell: Tell,
 ) -> Tell
-    requires { ⌜ (src + slotBytes * count ≤ length (now work)) × (long (slotsAt (now work) src count) ≡ false) × (mark < 16) × (tell .used ≤ length (now result)) × (tell .readings ≤ tell .used) ⌝ }
-    ensures { λ r. ⌜ Wrote (now (result .entry)) (now (result .exit)) (tell .used) (tell .readings) (isSet (tell .short)) (r .used) (r .readings) (isSet (r .short)) (linesBy full mark (slotsAt (now (work .entry)) src count)) ⌝ }
+    requires { ⌜ (src + slotBytes * count ≤ length (now work)) × (long (slotsAt (now work) src count) ≡ false)
+        × (mark < 16) × (tell .used ≤ length (now result)) × (tell .readings ≤ tell .used) ⌝ }
+    ensures { λ r. ⌜ Wrote (now (result .entry)) (now (result .exit)) (tell .used)
+        (tell .readings) (isSet (tell .short)) (r .used) (r .readings) (isSet (r .short))
+        (linesBy full mark (slotsAt (now (work .entry)) src count)) ⌝ }
 {
     let mut told = tell;
     let mut k = 0;
@@ -170,8 +183,10 @@ fn close_all(
 
 // Puts out one reading that has no binding too many.
 fn emit(work: &mut [u8], slot: &[u8; SLOT_BYTES], dst: usize, limit: usize, out: Out) -> Out
-    requires { ⌜ (dst + slotBytes * limit ≤ length (now work)) × (length (now slot) ≡ slotBytes) × (isLong (heldIn (now slot)) ≡ false) × (out .total < stepBound) ⌝ }
-    ensures { λ r. ⌜ Added (now (work .entry)) (now (work .exit)) dst limit (out .total) (isSet (out .over)) (r .total) (isSet (r .over)) (heldIn (now (slot .entry)) ∷ []) ⌝ }
+    requires { ⌜ (dst + slotBytes * limit ≤ length (now work)) × (length (now slot) ≡ slotBytes)
+        × (isLong (heldIn (now slot)) ≡ false) × (out .total < stepBound) ⌝ }
+    ensures { λ r. ⌜ Added (now (work .entry)) (now (work .exit)) dst limit (out .total) (isSet (out .over)) (r .total)
+        (isSet (r .over)) (heldIn (now (slot .entry)) ∷ []) ⌝ }
 {
     let total = out.total;
     if limit <= total {
@@ -199,8 +214,10 @@ fn emit_bound(
     limit: usize,
     out: Out,
 ) -> Out
-    requires { ⌜ (dst + slotBytes * limit ≤ length (now work)) × (length (now slot) ≡ slotBytes) × (countIn (now slot) < mostBindings) × (out .total < stepBound) × (v < mostVariables) × (i < mostRecords) ⌝ }
-    ensures { λ r. ⌜ Added (now (work .entry)) (now (work .exit)) dst limit (out .total) (isSet (out .over)) (r .total) (isSet (r .over)) (grow i v (heldIn (now (slot .entry))) ∷ []) ⌝ }
+    requires { ⌜ (dst + slotBytes * limit ≤ length (now work)) × (length (now slot) ≡ slotBytes)
+        × (countIn (now slot) < mostBindings) × (out .total < stepBound) × (v < mostVariables) × (i < mostRecords) ⌝ }
+    ensures { λ r. ⌜ Added (now (work .entry)) (now (work .exit)) dst limit (out .total) (isSet (out .over)) (r .total)
+        (isSet (r .over)) (grow i v (heldIn (now (slot .entry))) ∷ []) ⌝ }
 {
     let total = out.total;
     if limit <= total {
@@ -229,8 +246,10 @@ fn emit_grown(
     limit: usize,
     out: Out,
 ) -> Out
-    requires { ⌜ (dst + slotBytes * limit ≤ length (now work)) × (from + slotBytes ≤ length (now work)) × (out .total < stepBound) × (v < mostVariables) × (i < mostRecords) ⌝ }
-    ensures { λ r. ⌜ Added (now (work .entry)) (now (work .exit)) dst limit (out .total) (isSet (out .over)) (r .total) (isSet (r .over)) (grow i v (heldIn (slotAt (now (work .entry)) from)) ∷ []) ⌝ }
+    requires { ⌜ (dst + slotBytes * limit ≤ length (now work)) × (from + slotBytes ≤ length (now work))
+        × (out .total < stepBound) × (v < mostVariables) × (i < mostRecords) ⌝ }
+    ensures { λ r. ⌜ Added (now (work .entry)) (now (work .exit)) dst limit (out .total) (isSet (out .over)) (r .total)
+        (isSet (r .over)) (grow i v (heldIn (slotAt (now (work .entry)) from)) ∷ []) ⌝ }
 {
     let end = from + SLOT_BYTES;
     if slots::count_of(&work[from..end]) < slots::MOST_BINDINGS {
@@ -255,8 +274,12 @@ fn try_one(
     limit: usize,
     out: Out,
 ) -> Out
-    requires { ⌜ (dst + slotBytes * limit ≤ length (now work)) × (from + slotBytes ≤ length (now work)) × (out .total < stepBound) × (v < mostVariables) × (i < mostRecords) × Fit (now plan) (now block) i (slotAt (now work) from) ⌝ }
-    ensures { λ r. ⌜ Added (now (work .entry)) (now (work .exit)) dst limit (out .total) (isSet (out .over)) (r .total) (isSet (r .over)) (oneBy (now (plan .entry)) (now (block .entry)) i v (heldIn (slotAt (now (work .entry)) from))) ⌝ }
+    requires { ⌜ (dst + slotBytes * limit ≤ length (now work)) × (from + slotBytes ≤ length (now work))
+        × (out .total < stepBound) × (v < mostVariables) × (i < mostRecords)
+        × Fit (now plan) (now block) i (slotAt (now work) from) ⌝ }
+    ensures { λ r. ⌜ Added (now (work .entry)) (now (work .exit)) dst limit
+        (out .total) (isSet (out .over)) (r .total) (isSet (r .over))
+        (oneBy (now (plan .entry)) (now (block .entry)) i v (heldIn (slotAt (now (work .entry)) from))) ⌝ }
 {
     let end = from + SLOT_BYTES;
     if !firing::leaves(plan, slots::state_of(&work[from..end]), v) {
@@ -280,8 +303,12 @@ fn spread(
     limit: usize,
     out: Out,
 ) -> Out
-    requires { ⌜ (dst + slotBytes * limit ≤ length (now work)) × (from + slotBytes ≤ length (now work)) × Apart from (from + slotBytes) dst limit × (out .total + mostVariables < stepBound) × (can < 2 ^ mostVariables) × (i < mostRecords) × Fit (now plan) (now block) i (slotAt (now work) from) ⌝ }
-    ensures { λ r. ⌜ Added (now (work .entry)) (now (work .exit)) dst limit (out .total) (isSet (out .over)) (r .total) (isSet (r .over)) (firedBy (now (plan .entry)) (now (block .entry)) i can (heldIn (slotAt (now (work .entry)) from))) ⌝ }
+    requires { ⌜ (dst + slotBytes * limit ≤ length (now work)) × (from + slotBytes ≤ length (now work))
+        × Apart from (from + slotBytes) dst limit × (out .total + mostVariables < stepBound) × (can < 2 ^ mostVariables)
+        × (i < mostRecords) × Fit (now plan) (now block) i (slotAt (now work) from) ⌝ }
+    ensures { λ r. ⌜ Added (now (work .entry)) (now (work .exit)) dst limit
+        (out .total) (isSet (out .over)) (r .total) (isSet (r .over))
+        (firedBy (now (plan .entry)) (now (block .entry)) i can (heldIn (slotAt (now (work .entry)) from))) ⌝ }
 {
     let mut more = out;
     let mut rest = can;
@@ -305,8 +332,12 @@ fn extend_one(
     limit: usize,
     out: Out,
 ) -> Out
-    requires { ⌜ (dst + slotBytes * limit ≤ length (now work)) × (from + slotBytes ≤ length (now work)) × Apart from (from + slotBytes) dst limit × (out .total + mostVariables < stepBound) × (can < 2 ^ mostVariables) × (i < mostRecords) × Fit (now plan) (now block) i (slotAt (now work) from) ⌝ }
-    ensures { λ r. ⌜ Added (now (work .entry)) (now (work .exit)) dst limit (out .total) (isSet (out .over)) (r .total) (isSet (r .over)) (extendBy (now (plan .entry)) (now (block .entry)) i can (heldIn (slotAt (now (work .entry)) from))) ⌝ }
+    requires { ⌜ (dst + slotBytes * limit ≤ length (now work)) × (from + slotBytes ≤ length (now work))
+        × Apart from (from + slotBytes) dst limit × (out .total + mostVariables < stepBound) × (can < 2 ^ mostVariables)
+        × (i < mostRecords) × Fit (now plan) (now block) i (slotAt (now work) from) ⌝ }
+    ensures { λ r. ⌜ Added (now (work .entry)) (now (work .exit)) dst limit
+        (out .total) (isSet (out .over)) (r .total) (isSet (r .over))
+        (extendBy (now (plan .entry)) (now (block .entry)) i can (heldIn (slotAt (now (work .entry)) from))) ⌝ }
 {
     let total = out.total;
     let more = spread(work, plan, block, i, can, from, dst, limit, out);
@@ -319,8 +350,8 @@ fn extend_one(
     emit(work, &slot, dst, limit, more)
 }
 
-// Puts out the reading that begins with one variable whose own conditions hold, if it fires. Nothing is bound, so its state
-// is all that it is asked.
+// Puts out the reading that begins with one variable whose own conditions hold, if it fires. Nothing is bound, so its
+// state is all that it is asked.
 fn begin_one(
     work: &mut [u8],
     plan: &[u64; PLAN_ROOM],
@@ -330,8 +361,10 @@ fn begin_one(
     limit: usize,
     out: Out,
 ) -> Out
-    requires { ⌜ (dst + slotBytes * limit ≤ length (now work)) × (out .total < stepBound) × (v < mostVariables) × (i < mostRecords) × Sound (now plan) ⌝ }
-    ensures { λ r. ⌜ Added (now (work .entry)) (now (work .exit)) dst limit (out .total) (isSet (out .over)) (r .total) (isSet (r .over)) (firstBy (now (plan .entry)) i v) ⌝ }
+    requires { ⌜ (dst + slotBytes * limit ≤ length (now work)) × (out .total < stepBound) × (v < mostVariables)
+        × (i < mostRecords) × Sound (now plan) ⌝ }
+    ensures { λ r. ⌜ Added (now (work .entry)) (now (work .exit)) dst limit (out .total) (isSet (out .over)) (r .total)
+        (isSet (r .over)) (firstBy (now (plan .entry)) i v) ⌝ }
 {
     if firing::leaves(plan, 0, v) {
         let none = slots::empty_slot();
@@ -350,8 +383,10 @@ fn begin(
     limit: usize,
     out: Out,
 ) -> Out
-    requires { ⌜ (dst + slotBytes * limit ≤ length (now work)) × (out .total + mostVariables < stepBound) × (can < 2 ^ mostVariables) × (i < mostRecords) × Sound (now plan) ⌝ }
-    ensures { λ r. ⌜ Added (now (work .entry)) (now (work .exit)) dst limit (out .total) (isSet (out .over)) (r .total) (isSet (r .over)) (begunBy (now (plan .entry)) i can) ⌝ }
+    requires { ⌜ (dst + slotBytes * limit ≤ length (now work)) × (out .total + mostVariables < stepBound)
+        × (can < 2 ^ mostVariables) × (i < mostRecords) × Sound (now plan) ⌝ }
+    ensures { λ r. ⌜ Added (now (work .entry)) (now (work .exit)) dst limit (out .total) (isSet (out .over)) (r .total)
+        (isSet (r .over)) (begunBy (now (plan .entry)) i can) ⌝ }
 {
     let mut more = out;
     let mut rest = can;
@@ -375,9 +410,12 @@ fn advance(
     dst: usize,
     limit: usize,
 ) -> Out
-    requires { ⌜ (dst + slotBytes * limit ≤ length (now work)) × (src + slotBytes * count ≤ length (now work)) × Apart src (src + slotBytes * count) dst limit ⌝ }
-    requires { ⌜ (count ≤ mostLive) × (can < 2 ^ mostVariables) × (i < mostRecords) × Sound (now plan) × Ready (now work) (now plan) (now block) i src count ⌝ }
-    ensures { λ r. ⌜ Added (now (work .entry)) (now (work .exit)) dst limit 0 false (r .total) (isSet (r .over)) (stepBy (now (plan .entry)) (now (block .entry)) i can (slotsAt (now (work .entry)) src count)) ⌝ }
+    requires { ⌜ (dst + slotBytes * limit ≤ length (now work)) × (src + slotBytes * count ≤ length (now work))
+        × Apart src (src + slotBytes * count) dst limit ⌝ }
+    requires { ⌜ (count ≤ mostLive) × (can < 2 ^ mostVariables) × (i < mostRecords) × Sound (now plan)
+        × Ready (now work) (now plan) (now block) i src count ⌝ }
+    ensures { λ r. ⌜ Added (now (work .entry)) (now (work .exit)) dst limit 0 false (r .total) (isSet (r .over))
+        (stepBy (now (plan .entry)) (now (block .entry)) i can (slotsAt (now (work .entry)) src count)) ⌝ }
 {
     let mut out = Out { total: 0, over: 0 };
     let mut k = 0;
@@ -389,8 +427,8 @@ fn advance(
     begin(work, plan, i, can, dst, limit, out)
 }
 
-// Where the live readings stand: the half of working memory, the place of the first, how many; and whether one of them has
-// a binding too many.
+// Where the live readings stand: the half of working memory, the place of the first, how many; and whether one of them
+// has a binding too many.
 pub struct Stand {
     pub half: usize,
     pub start: usize,
@@ -408,9 +446,13 @@ fn move_on(
     stand: Stand,
     limit: usize,
 ) -> Stand
-    requires { ⌜ Stands (length (now work)) limit (stand .half) (stand .start) (stand .count) × (long (slotsAt (now work) (stand .start) (stand .count)) ≡ false) × (isSet (stand .over) ≡ false) ⌝ }
-    requires { ⌜ (can < 2 ^ mostVariables) × (i < mostRecords) × Sound (now plan) × Ready (now work) (now plan) (now block) i (stand .start) (stand .count) ⌝ }
-    ensures { λ r. ⌜ Moved (now (work .entry)) (now (work .exit)) limit (r .half) (r .start) (r .count) (isSet (r .over)) (stepBy (now (plan .entry)) (now (block .entry)) i can (slotsAt (now (work .entry)) (stand .start) (stand .count))) ⌝ }
+    requires { ⌜ Stands (length (now work)) limit (stand .half) (stand .start) (stand .count)
+        × (long (slotsAt (now work) (stand .start) (stand .count)) ≡ false) × (isSet (stand .over) ≡ false) ⌝ }
+    requires { ⌜ (can < 2 ^ mostVariables) × (i < mostRecords) × Sound (now plan)
+        × Ready (now work) (now plan) (now block) i (stand .start) (stand .count) ⌝ }
+    ensures { λ r. ⌜ Moved (now (work .entry)) (now (work .exit)) limit (r .half) (r .start)
+        (r .count) (isSet (r .over)) (stepBy (now (plan .entry)) (now (block .entry)) i can
+        (slotsAt (now (work .entry)) (stand .start) (stand .count))) ⌝ }
 {
     if can == 0 {
         return stand;
@@ -438,7 +480,12 @@ fn move_on(
 // The readings but for the first ones, which are gone.
 fn without(stand: Stand, gone: usize) -> Stand
     requires { ⌜ (gone ≤ stand .count) × (stand .start + slotBytes * stand .count < 9223372036854775808) ⌝ }
-    ensures { λ r. ⌜ r ≡ record { half = stand .half; start = stand .start + slotBytes * gone; count = stand .count - gone; over = stand .over } ⌝ }
+    ensures { λ r. ⌜ r ≡ record {
+      half = stand .half;
+      start = stand .start + slotBytes * gone;
+      count = stand .count - gone;
+      over = stand .over;
+    } ⌝ }
 {
     Stand {
         half: stand.half,
@@ -450,7 +497,8 @@ fn without(stand: Stand, gone: usize) -> Stand
 
 // The variables whose own conditions hold of record i, if it is an event.
 fn can_at(plan: &[u64; PLAN_ROOM], block: &[u8], i: usize, n: usize, c: usize) -> u64
-    requires { ⌜ Sound (now plan) × Classed (now plan) n c × (n ≤ mostVariables) × (c ≤ mostConditions) × (recordBytes * i + recordBytes ≤ length (now block)) ⌝ }
+    requires { ⌜ Sound (now plan) × Classed (now plan) n c × (n ≤ mostVariables) × (c ≤ mostConditions)
+        × (recordBytes * i + recordBytes ≤ length (now block)) ⌝ }
     ensures { λ r. ⌜ (r ≡ canAt (now (plan .entry)) n c (now (block .entry)) i) × (r < 2 ^ mostVariables) ⌝ }
 {
     if is_event(block, i) {
@@ -479,7 +527,8 @@ fn pass(
     work: &mut [u8],
     result: &mut [u8],
 ) -> Answer
-    requires { ⌜ Prepared p (now plan) (now block) × (limit ≤ mostLive) × (slotBytes * limit + slotBytes * limit ≤ length (now work)) ⌝ }
+    requires { ⌜ Prepared p (now plan) (now block) × (limit ≤ mostLive)
+        × (slotBytes * limit + slotBytes * limit ≤ length (now work)) ⌝ }
     ensures { λ r. ⌜ Ran p (now (block .entry)) limit (now (result .entry)) (now (result .exit)) r ⌝ }
 {
     let full = numbers::weight(p.n) - 1;
@@ -559,7 +608,8 @@ fn is_limit_broken(limit: u32, lent: usize) -> bool
 // Clears what a call leaves clear: working memory, and of the result all that holds no report.
 fn finish(answer: Answer, work: &mut [u8], result: &mut [u8]) -> Answer
     requires { ⌜ (answer .code ≡ 0 → 2 * answer .used ≤ length (now result)) ⌝ }
-    ensures { λ r. ⌜ (r ≡ answer) × (now (work .exit) ≡ replicate (length (now (work .entry))) 0) × Finished answer (now (result .entry)) (now (result .exit)) ⌝ }
+    ensures { λ r. ⌜ (r ≡ answer) × (now (work .exit) ≡ replicate (length (now (work .entry))) 0)
+        × Finished answer (now (result .entry)) (now (result .exit)) ⌝ }
 {
     numbers::clear(work);
     if answer.code != 0 {
@@ -578,7 +628,8 @@ pub fn forward(
     work: &mut [u8],
     result: &mut [u8],
 ) -> Answer
-    ensures { λ r. ⌜ ForwardCall (now (pattern .entry)) (now (block .entry)) limit (length (now (work .entry))) (length (now (result .entry))) r (now (work .exit)) (now (result .exit)) ⌝ }
+    ensures { λ r. ⌜ ForwardCall (now (pattern .entry)) (now (block .entry)) limit (length (now (work .entry)))
+        (length (now (result .entry))) r (now (work .exit)) (now (result .exit)) ⌝ }
 {
     let checked = patterns::check_pattern(pattern);
     if checked.code != 0 {

@@ -11,7 +11,8 @@ use Rattle.lines.specs.Text.{reportText, okText, refusedText, answerText
 use Rattle.lines.proofs.Put.{put-then}
 
 pub refused-put :
-    (before after : List ℕ) (end : ℕ) (a : Answer) (l : List Line) → ¬ (a .code ≡ 0) → Put before after 0 (refusedText a) end
+    (before after : List ℕ) (end : ℕ) (a : Answer) (l : List Line) → ¬ (a .code ≡ 0)
+    → Put before after 0 (refusedText a) end
     → take end after ≡ answerText a l
 unfolding answerText
 refused-put before after end a l h p = rw (answerText, ne-eqb (a .code) 0 h) (p .wrote)

@@ -1,5 +1,5 @@
--- The digits of a number of one digit, and of a number of more: those of a tenth of it, and the last; and both put as text.
--- Assumes nothing.
+-- The digits of a number of one digit, and of a number of more: those of a tenth of it, and the last; and both put as
+-- text. Assumes nothing.
 use mathlib.Core.Path.{_≡_, sym, ap, _∙_}
 use mathlib.Core.List.{List, [], _∷_, _++_}
 use Prim.Native.Nat.{ℕ, zero, suc, _+_, _^_, _-_, _/_, _%_, _≤_, _<_}
@@ -48,15 +48,18 @@ pub fits-digits : (places n : ℕ) → n < 10 ^ places → places ≤ mostDigits
 fits-digits places n h k = omega (arith, pow-le-pow-right {n = 10} (omega arith) {i = places} {j = mostDigits} k)
 
 -- a number of more than one digit has room for more than one
-pub places-left : (places n : ℕ) → 1 ≤ places → 10 ≤ n → n < 10 ^ places → (1 ≤ places - 1) × (n / 10 < 10 ^ (places - 1))
+pub places-left :
+    (places n : ℕ) → 1 ≤ places → 10 ≤ n → n < 10 ^ places → (1 ≤ places - 1) × (n / 10 < 10 ^ (places - 1))
 places-left zero n p h k = absurd (omega arith)
 places-left (suc zero) n p h k = absurd (omega arith)
 places-left (suc (suc places)) n p h k = (omega arith, let e : suc (suc places) - 1 ≡ suc places = omega arith in rw e (tenth-below (suc places) n k))
 
-pub put-digit : (text : List ℕ) (at n : ℕ) → n < 10 → at < length text → Put text (set text at (glyph n)) at (decimal n) (at + 1)
+pub put-digit :
+    (text : List ℕ) (at n : ℕ) → n < 10 → at < length text → Put text (set text at (glyph n)) at (decimal n) (at + 1)
 put-digit text at n h k = rw (decimal-one n h) (put-byte text at (glyph n) k)
 
 pub put-last-digit :
-    (text more : List ℕ) (at end n : ℕ) → 10 ≤ n → n < 10 ^ mostDigits → Put text more at (decimal (n / 10)) end → end < length more
+    (text more : List ℕ) (at end n : ℕ) → 10 ≤ n → n < 10 ^ mostDigits → Put text more at (decimal (n / 10)) end
+    → end < length more
     → Put text (set more end (glyph (n % 10))) at (decimal n) (end + 1)
 put-last-digit text more at end n h k p e = rw (decimal-more n h k) (put-then p (put-byte more end (glyph (n % 10)) e))

@@ -24,7 +24,8 @@ unfolding readingText bindingsAt
 one-binding-more start text more result at first i end next binding e p q = rw (add-one i, ← e) (put-then p q)
 
 pub all-bindings :
-    (start text result : List ℕ) (at first i count end : ℕ) → i ≡ count → Put start text at (readingText (bindingsAt result first i)) end
+    (start text result : List ℕ) (at first i count end : ℕ) → i ≡ count
+    → Put start text at (readingText (bindingsAt result first i)) end
     → Put start text at (readingText (bindingsAt result first count)) end
 all-bindings start text result at first i count end e p = rw e at p
 

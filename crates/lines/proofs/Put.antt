@@ -30,7 +30,8 @@ put-then {a} {b} {c} {i} {j} {k} {x} {y} p q =
 
 -- a turn of the loop that puts a word: one byte more of it
 pub put-word-turn :
-    (start text word : List ℕ) (at i : ℕ) → i < length word → at + i < length text → Put start text at (take i word) (at + i)
+    (start text word : List ℕ) (at i : ℕ) → i < length word → at + i < length text
+    → Put start text at (take i word) (at + i)
     → Put start (set text (at + i) (getD word i 0)) at (take (i + 1) word) (at + (i + 1))
 put-word-turn start text word at i h k p =
     let e : take (i + 1) word ≡ take i word ++ (getD word i 0 ∷ []) = ap (λ (j : ℕ). take j word) (add-one i) ∙ take-suc word i 0 h in
@@ -38,5 +39,6 @@ put-word-turn start text word at i h k p =
     rw (e, f) (put-then p (put-byte text (at + i) (getD word i 0) k))
 
 pub put-word-end :
-    (start text word : List ℕ) (at i : ℕ) → length word ≤ i → Put start text at (take i word) (at + i) → Put start text at word (at + i)
+    (start text word : List ℕ) (at i : ℕ) → length word ≤ i → Put start text at (take i word) (at + i)
+    → Put start text at word (at + i)
 put-word-end start text word at i h p = rw (take-all i word h) at p

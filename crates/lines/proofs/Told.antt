@@ -1,5 +1,5 @@
--- Of a call that accepts, the lines that the result's bytes stand for are its report's, and all of them stand in the result.
--- Assumes nothing.
+-- Of a call that accepts, the lines that the result's bytes stand for are its report's, and all of them stand in the
+-- result. Assumes nothing.
 use mathlib.Core.Path.{_≡_, ap, _∙_}
 use mathlib.Core.List.{List}
 use Prim.Native.Nat.{ℕ, _+_, _-_, _*_, _≤_, _<_}
@@ -17,7 +17,8 @@ use Rattle.rule.proofs.Results.{checked-input, report-fits}
 use Rattle.lines.specs.Results.{numberAt, placeOf, linesIn}
 use Rattle.lines.proofs.Unpacked.{number-bytes, report-place, report-lines}
 
-module _ (pattern block : List ℕ) (lent : ℕ) (answer : Answer) (result : List ℕ) (call : CallTold pattern block lent answer result) where
+module _ (pattern block : List ℕ) (lent : ℕ) (answer : Answer) (result : List ℕ)
+    (call : CallTold pattern block lent answer result) where
   abbrev lines : List Line
   lines = call .told .lines
 

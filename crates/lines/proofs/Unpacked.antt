@@ -1,6 +1,7 @@
 -- The lines that a result's bytes stand for are those of the report that was packed into it. Assumes nothing.
 use mathlib.Core.Path.{_≡_, refl, sym, ap, ap₂, subst, _∙_}
-use mathlib.Core.List.{List, [], _∷_, _++_, append-assoc, append-nil, List·Memᴰ, List·Memᴰ·head, List·Memᴰ·tail, Memᴰ·append-right}
+use mathlib.Core.List.{List, [], _∷_, _++_, append-assoc, append-nil, List·Memᴰ, List·Memᴰ·head, List·Memᴰ·tail}
+use mathlib.Core.List.{Memᴰ·append-right}
 use Prim.Native.Nat.{ℕ, zero, suc, _+_, _-_, _*_, _<_}
 use native.Mathlib.Nat.{add-zero}
 use native.Mathlib.Omega.{arith}
@@ -15,7 +16,8 @@ use Rattle.lines.specs.Results.{numberAt, markAt, countAt, bindingOf, bi
 
 -- ## Numbers
 
-pub number-bytes : (numbers rest : List ℕ) (i : ℕ) → i < length numbers → numberAt (bytesOf numbers ++ rest) i ≡ getD numbers i 0
+pub number-bytes :
+    (numbers rest : List ℕ) (i : ℕ) → i < length numbers → numberAt (bytesOf numbers ++ rest) i ≡ getD numbers i 0
 unfolding bytesOf
 number-bytes [] rest i h = absurd (omega arith)
 number-bytes (x ∷ l) rest zero h = number-2 _ 0 ∙ omega arith
@@ -36,7 +38,8 @@ binding-back b h = λ i. record { variable = variable i; at = at i }
     at = omega arith
 
 bindings-back :
-    (result : List ℕ) (first : ℕ) (r : Reading) → ((k : ℕ) → k < length r → numberAt result (first + k) ≡ getD (packBindings r) k 0)
+    (result : List ℕ) (first : ℕ) (r : Reading)
+    → ((k : ℕ) → k < length r → numberAt result (first + k) ≡ getD (packBindings r) k 0)
     → ((b : Binding) → List·Memᴰ b r → BindingFits b)
     → bindingsAt result first (length r) ≡ r
 unfolding bindingsAt
@@ -49,7 +52,8 @@ bindings-back result first (b ∷ bs) agrees fits =
     (λ k h. agrees k (omega arith) ∙ List·getD-append (packBindings bs) (packed (b .variable) (b .at) ∷ []) 0 k (omega (arith, length-pack-bindings bs)))
     (λ c m. fits c (List·Memᴰ·tail m)))
 
-module _ (result : List ℕ) (at : ℕ) (x : Line) (rest : List Line) (fits : LineFits x) (agrees : (k : ℕ) → k < length (pack (x ∷ rest)) → numberAt result (at + k) ≡ getD (pack (x ∷ rest)) k 0) where
+module _ (result : List ℕ) (at : ℕ) (x : Line) (rest : List Line) (fits : LineFits x)
+    (agrees : (k : ℕ) → k < length (pack (x ∷ rest)) → numberAt result (at + k) ≡ getD (pack (x ∷ rest)) k 0) where
   head-back : numberAt result at ≡ packed (x .mark) (length (x .reading))
   head-back = ap (numberAt result) (sym (add-zero at)) ∙ agrees 0 (omega arith)
 
@@ -76,7 +80,8 @@ module _ (result : List ℕ) (at : ℕ) (x : Line) (rest : List Line) (fits : Li
 
 -- ## Reports
 
-length-pack-snoc : (l : List Line) (x : Line) → length (pack (l ++ (x ∷ []))) ≡ length (pack l) + 1 + length (x .reading)
+length-pack-snoc :
+    (l : List Line) (x : Line) → length (pack (l ++ (x ∷ []))) ≡ length (pack l) + 1 + length (x .reading)
 length-pack-snoc l x =
     ap length (pack-append l (x ∷ []))
     ∙ length-append (pack l) (pack (x ∷ []))
@@ -90,12 +95,14 @@ record Read (result : List ℕ) (done : List Line) : Type 0 where
   place : placeOf result (length done) ≡ length (pack done)
   lines : linesIn result (length done) ≡ done
 
-module _ (result : List ℕ) (report : List Line) (fits : AllFit report) (agrees : (i : ℕ) → i < length (pack report) → numberAt result i ≡ getD (pack report) i 0) where
+module _ (result : List ℕ) (report : List Line) (fits : AllFit report)
+    (agrees : (i : ℕ) → i < length (pack report) → numberAt result i ≡ getD (pack report) i 0) where
   module _ (done : List Line) (x : Line) (rest : List Line) (e : report ≡ done ++ (x ∷ rest)) where
     split : pack report ≡ pack done ++ pack (x ∷ rest)
     split = ap pack e ∙ pack-append done (x ∷ rest)
 
-    next-agrees : (k : ℕ) → k < length (pack (x ∷ rest)) → numberAt result (length (pack done) + k) ≡ getD (pack (x ∷ rest)) k 0
+    next-agrees :
+        (k : ℕ) → k < length (pack (x ∷ rest)) → numberAt result (length (pack done) + k) ≡ getD (pack (x ∷ rest)) k 0
     next-agrees k h =
         agrees (length (pack done) + k) (omega (arith, ap length split, length-append (pack done) (pack (x ∷ rest))))
         ∙ ap (λ (l : List ℕ). getD l (length (pack done) + k) 0) split

@@ -1,4 +1,5 @@
--- What the match program writes: a line for each reported reading, and last how the call ended. Text is a list of ASCII codes.
+-- What the match program writes: a line for each reported reading, and last how the call ended. Text is a list
+-- of ASCII codes.
 use mathlib.Core.Bool.{true, false}
 use mathlib.Core.List.{List, [], _∷_, _++_}
 use Prim.Native.Nat.{ℕ, zero, suc, _+_, _*_, _/_, _%_}

@@ -2,7 +2,8 @@
 ghost use mathlib.Core.Path.{_≡_};
 ghost use Prim.Native.Nat.{_+_, _*_, _^_, _≤_, _<_};
 ghost use lib.ListN.{length, take};
-ghost use Rattle.lines.specs.Text.{mostDigits, decimal, after, bindingText, readingText, lineText, reportText, okText, refusedText, answerText, numberRoom, lastRoom, textRoom};
+ghost use Rattle.lines.specs.Text.{mostDigits, decimal, after, bindingText, readingText, lineText, reportText};
+ghost use Rattle.lines.specs.Text.{okText, refusedText, answerText, numberRoom, lastRoom, textRoom};
 ghost use Rattle.lines.specs.Results.{countAt, bindingOf, bindingsAt, lineAt, behind, placeOf, linesIn};
 ghost use Rattle.lines.specs.Put.{Put};
 use records::Answer;
@@ -51,7 +52,8 @@ fn put_after(text: &mut [u8], at: usize, sign: u8, n: u64, places: usize) -> usi
 // variable@record, after a space.
 fn put_binding(text: &mut [u8], at: usize, binding: u16) -> usize
     requires { ⌜ at + numberRoom ≤ length (now text) ⌝ }
-    ensures { λ r. ⌜ Put (now (text .entry)) (now (text .exit)) at (bindingText (bindingOf binding)) r × (r ≤ at + numberRoom) ⌝ }
+    ensures { λ r. ⌜ Put (now (text .entry)) (now (text .exit)) at (bindingText (bindingOf binding)) r
+        × (r ≤ at + numberRoom) ⌝ }
 {
     let middle = put_after(text, at, b' ', (binding / LOW_NUMBERS) as u64, HIGH_DIGITS);
     put_after(
@@ -66,7 +68,8 @@ fn put_binding(text: &mut [u8], at: usize, binding: u16) -> usize
 // The bindings from a number of the result on.
 fn put_bindings(result: &[u8], first: usize, count: usize, text: &mut [u8], at: usize) -> usize
     requires { ⌜ (2 * (first + count) ≤ length (now result)) × (at + numberRoom * count ≤ length (now text)) ⌝ }
-    ensures { λ r. ⌜ Put (now (text .entry)) (now (text .exit)) at (readingText (bindingsAt (now (result .entry)) first count)) r × (r ≤ at + numberRoom * count) ⌝ }
+    ensures { λ r. ⌜ Put (now (text .entry)) (now (text .exit)) at
+        (readingText (bindingsAt (now (result .entry)) first count)) r × (r ≤ at + numberRoom * count) ⌝ }
 {
     let mut end = at;
     let mut i = 0;
@@ -80,8 +83,10 @@ fn put_bindings(result: &[u8], first: usize, count: usize, text: &mut [u8], at: 
 
 // The line whose head is the number at a place of the result.
 fn put_line(result: &[u8], at: usize, text: &mut [u8], from: usize) -> usize
-    requires { ⌜ (2 * behind (now result) at ≤ length (now result)) × (from + numberRoom * (1 + countAt (now result) at) ≤ length (now text)) ⌝ }
-    ensures { λ r. ⌜ Put (now (text .entry)) (now (text .exit)) from (lineText (lineAt (now (result .entry)) at)) r × (r ≤ from + numberRoom * (1 + countAt (now (result .entry)) at)) ⌝ }
+    requires { ⌜ (2 * behind (now result) at ≤ length (now result))
+        × (from + numberRoom * (1 + countAt (now result) at) ≤ length (now text)) ⌝ }
+    ensures { λ r. ⌜ Put (now (text .entry)) (now (text .exit)) from (lineText (lineAt (now (result .entry)) at)) r
+        × (r ≤ from + numberRoom * (1 + countAt (now (result .entry)) at)) ⌝ }
 {
     let head = numbers::number2(result, 2 * at);
     let count = (head % COUNT_NUMBERS) as usize;
@@ -101,8 +106,10 @@ fn next_line(result: &[u8], at: usize) -> usize
 
 // The first lines of the result, so many.
 fn put_lines(result: &[u8], count: usize, text: &mut [u8]) -> usize
-    requires { ⌜ (2 * placeOf (now result) count ≤ length (now result)) × (numberRoom * placeOf (now result) count ≤ length (now text)) ⌝ }
-    ensures { λ r. ⌜ Put (now (text .entry)) (now (text .exit)) 0 (reportText (linesIn (now (result .entry)) count)) r × (r ≤ numberRoom * placeOf (now (result .entry)) count) ⌝ }
+    requires { ⌜ (2 * placeOf (now result) count ≤ length (now result))
+        × (numberRoom * placeOf (now result) count ≤ length (now text)) ⌝ }
+    ensures { λ r. ⌜ Put (now (text .entry)) (now (text .exit)) 0 (reportText (linesIn (now (result .entry)) count)) r
+        × (r ≤ numberRoom * placeOf (now (result .entry)) count) ⌝ }
 {
     let mut end = 0;
     let mut at = 0;
@@ -155,8 +162,10 @@ fn put_refused(text: &mut [u8], answer: Answer) -> usize
 
 // All that is written of an answer and of the result beside it; answers how many bytes that is.
 pub fn put_answer(answer: Answer, result: &[u8], text: &mut [u8]) -> usize
-    requires { ⌜ (answer .code ≡ 0 → 2 * placeOf (now result) (answer .readings) ≤ length (now result)) × (textRoom (length (now result)) ≤ length (now text)) ⌝ }
-    ensures { λ r. ⌜ (take r (now (text .exit)) ≡ answerText answer (linesIn (now (result .entry)) (answer .readings))) × (r ≤ length (now (text .exit))) ⌝ }
+    requires { ⌜ (answer .code ≡ 0 → 2 * placeOf (now result) (answer .readings) ≤ length (now result))
+        × (textRoom (length (now result)) ≤ length (now text)) ⌝ }
+    ensures { λ r. ⌜ (take r (now (text .exit)) ≡ answerText answer (linesIn (now (result .entry)) (answer .readings)))
+        × (r ≤ length (now (text .exit))) ⌝ }
 {
     if answer.code != 0 {
         return put_refused(text, answer);

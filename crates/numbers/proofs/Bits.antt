@@ -2,7 +2,10 @@
 use mathlib.Core.Path.{_≡_, _∙_, refl, sym, ap, ap₂, subst}
 use mathlib.Core.Bool.{Bool, true, false, not, _&&_, _||_, or-comm, and-false}
 use Prim.Native.Nat.{ℕ, zero, suc, _+_, _-_, _*_, _/_, _%_, _^_, _≤_, _<_, zero-le}
-use native.Mathlib.Nat.{add-comm, div-eq-of-lt, div-div-eq-div-mul, div-mul-le-self, div-one, le-refl, le-trans, lt-of-le-of-lt, lt-of-lt-of-le, mod-eq-of-lt, mod-le, mod-lt, mod-one, mul-div-cancel, mul-le-mul-right, mul-mod-left, not-suc-le-zero, le-of-suc-le-suc, pow-suc, pow-succ', zero-lt-suc}
+use native.Mathlib.Nat.{add-comm, div-eq-of-lt, div-div-eq-div-mul, div-mul-le-self, div-one, le-refl, le-trans}
+use native.Mathlib.Nat.{lt-of-le-of-lt, lt-of-lt-of-le, mod-eq-of-lt, mod-le, mod-lt, mod-one, mul-div-cancel}
+use native.Mathlib.Nat.{mul-le-mul-right, mul-mod-left, not-suc-le-zero, le-of-suc-le-suc, pow-suc, pow-succ'}
+use native.Mathlib.Nat.{zero-lt-suc}
 use native.Mathlib.Numerals.{add-one, one-add}
 use native.Mathlib.Omega.{arith}
 use borrow.Author.Tests.{eq-eqb, ne-eqb, eqb-true, lt-ltb, le-ltb}
@@ -197,14 +200,16 @@ put-back f (suc n) w l =
     ap₂ (λ (x : ℕ) (t : Bool). x + oneIf t * 2 ^ n + oneIf (f w) * 2 ^ w) kept gone
     ∙ ap (λ (x : ℕ). x + oneIf (f w) * 2 ^ w) none ∙ ap (λ (i : ℕ). mask f n + oneIf (f i) * 2 ^ i) (sym e))
 
-without-outside : (f : ℕ → Bool) (n w : ℕ) → n ≤ w → mask f n - oneIf (bit (mask f n) w) * 2 ^ w ≡ mask (λ v. not (eqb w v) && f v) n
+without-outside :
+    (f : ℕ → Bool) (n w : ℕ) → n ≤ w → mask f n - oneIf (bit (mask f n) w) * 2 ^ w ≡ mask (λ v. not (eqb w v) && f v) n
 without-outside f n w l =
     let none : mask f n - oneIf false * 2 ^ w ≡ mask f n = omega arith in
     ap (λ (t : Bool). mask f n - oneIf t * 2 ^ w) (bit-high (mask f n) n w (mask-bound f n) l)
     ∙ none
     ∙ mask-same f (λ v. not (eqb w v) && f v) n (λ v h. sym (ap (λ (t : Bool). not t && f v) (ne-eqb w v (λ q. omega arith))))
 
-pub mask-without : (f : ℕ → Bool) (n w : ℕ) → mask f n - oneIf (bit (mask f n) w) * 2 ^ w ≡ mask (λ v. not (eqb w v) && f v) n
+pub mask-without :
+    (f : ℕ → Bool) (n w : ℕ) → mask f n - oneIf (bit (mask f n) w) * 2 ^ w ≡ mask (λ v. not (eqb w v) && f v) n
 mask-without f n w =
     by-order w n
     (λ l.

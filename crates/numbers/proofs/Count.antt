@@ -28,7 +28,8 @@ count-ext f g zero e = refl
 count-ext f g (suc n) e = ap₂ _+_ (count-ext f g n (λ i h. e i (omega arith))) (ap oneIf (e n (omega arith)))
 
 -- all but one
-pub count-but : (test : ℕ → Bool) (v n : ℕ) → v < n → test v ≡ true → count test n ≡ suc (count (λ u. test u && not (eqb u v)) n)
+pub count-but :
+    (test : ℕ → Bool) (v n : ℕ) → v < n → test v ≡ true → count test n ≡ suc (count (λ u. test u && not (eqb u v)) n)
 unfolding count
 count-but test v zero h e = absurd (omega arith)
 count-but test v (suc n) h e =

@@ -16,7 +16,8 @@ module _ (test : ℕ → Bool) where
   unfolding firstFrom
   from-later k n e = rw (e, firstFrom)
 
-  from-at : (k n i : ℕ) → k ≤ i → i < k + n → ((j : ℕ) → j < i → test j ≡ false) → test i ≡ true → firstFrom test k n ≡ i
+  from-at :
+      (k n i : ℕ) → k ≤ i → i < k + n → ((j : ℕ) → j < i → test j ≡ false) → test i ≡ true → firstFrom test k n ≡ i
   from-at k zero i h l f t = absurd (omega arith)
   from-at k (suc n) i h l f t =
       let r = from-at (suc k) n i in

@@ -40,7 +40,9 @@ trailing-lowest (suc d) number h k =
     (λ (e : number % 2 ≡ 0).
     trailing-lowest d (number / 2) (omega arith) (div-lt-iff-lt-mul (zero-lt-suc 1) .1 (subst (λ (x : ℕ). number < x) (pow-suc 2 d) k)))
   where
-    go : (r : ℕ) → number % 2 ≡ r → (number % 2 ≡ 0 → IsLowestBit d (number / 2) (trailingZeros d (number / 2))) → IsLowestBit (suc d) number (under r (trailingZeros d (number / 2)))
+    go :
+        (r : ℕ) → number % 2 ≡ r → (number % 2 ≡ 0 → IsLowestBit d (number / 2) (trailingZeros d (number / 2)))
+        → IsLowestBit (suc d) number (under r (trailingZeros d (number / 2)))
     go zero e ih = halved d number (trailingZeros d (number / 2)) e (ih e)
     go (suc r) e ih = odd d number r e
 
@@ -57,7 +59,8 @@ and-odd number e =
     ∙ whole
 
 -- an even number loses what its half does, twice
-and-even : (number : ℕ) → 0 < number → number % 2 ≡ 0 → bitAnd number (number - 1) ≡ bitAnd (number / 2) (number / 2 - 1) * 2
+and-even :
+    (number : ℕ) → 0 < number → number % 2 ≡ 0 → bitAnd number (number - 1) ≡ bitAnd (number / 2) (number / 2 - 1) * 2
 and-even number h e =
     let half : (number - 1) / 2 ≡ number / 2 - 1 = omega arith in
     let digit : (number - 1) % 2 ≡ 1 = omega arith in
@@ -65,7 +68,9 @@ and-even number h e =
     ∙ ap₂ (λ (x y : ℕ). x * 2 + y) (ap (bitAnd (number / 2)) half) (ap₂ min e digit)
     ∙ add-zero (bitAnd (number / 2) (number / 2 - 1) * 2)
 
-pub and-lowest : (number v : ℕ) → 0 < number → bit number v ≡ true → ((u : ℕ) → u < v → bit number u ≡ false) → bitAnd number (number - 1) ≡ number - 2 ^ v
+pub and-lowest :
+    (number v : ℕ) → 0 < number → bit number v ≡ true → ((u : ℕ) → u < v → bit number u ≡ false)
+    → bitAnd number (number - 1) ≡ number - 2 ^ v
 and-lowest number zero h here none = and-odd number (eqb-true (number % 2) 1 (sym (bit-odd number) ∙ here))
 and-lowest number (suc v) h here none =
     let not-odd : number % 2 ≡ 1 → ⊥ = eqb-false (number % 2) 1 (sym (bit-odd number) ∙ none zero (zero-lt-suc v)) in

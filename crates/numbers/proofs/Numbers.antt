@@ -11,7 +11,9 @@ pub number-2 : (s : List ℕ) (at : ℕ) → number s at 2 ≡ getD s at 0 * 256
 unfolding number
 number-2 s at = simp (add-zero, zero-add)
 
-pub number-4 : (s : List ℕ) (at : ℕ) → number s at 4 ≡ ((getD s at 0 * 256 + getD s (at + 1) 0) * 256 + getD s (at + 2) 0) * 256 + getD s (at + 3) 0
+pub number-4 :
+    (s : List ℕ) (at : ℕ)
+    → number s at 4 ≡ ((getD s at 0 * 256 + getD s (at + 1) 0) * 256 + getD s (at + 2) 0) * 256 + getD s (at + 3) 0
 unfolding number
 number-4 s at = simp (add-zero, zero-add)
 

@@ -69,7 +69,9 @@ module _ (free want : ℕ → Bool) where
       asked-more n (2 ^ n + s)
       ∙ ap₂ (λ (a x : Bool). a && (free n || same x (want n))) (asked-above n s) (bit-above n s h)
 
-  halves : (f w : Bool) (c total : ℕ) → total ≡ 2 ^ c → oneIf (f || not w) * total + oneIf (f || w) * total ≡ 2 ^ (c + oneIf f)
+  halves :
+      (f w : Bool) (c total : ℕ) → total ≡ 2 ^ c
+      → oneIf (f || not w) * total + oneIf (f || w) * total ≡ 2 ^ (c + oneIf f)
   halves true w c total e = rw add-one (omega (arith, pow-suc 2 c))
   halves false true c total e = rw (add-zero c) (omega arith)
   halves false false c total e = rw (add-zero c) (omega arith)

@@ -48,7 +48,9 @@ sum-count test zero = refl
 sum-count test (suc n) = ap (λ (x : ℕ). x + oneIf (test n)) (sum-count test n)
 
 -- of a test and a flag
-pub sum-flag : (test : ℕ → Bool) (flag : Bool) (n : ℕ) → sum (λ i. oneIf (test i && flag)) n ≡ oneIf flag * sum (λ i. oneIf (test i)) n
+pub sum-flag :
+    (test : ℕ → Bool) (flag : Bool) (n : ℕ)
+    → sum (λ i. oneIf (test i && flag)) n ≡ oneIf flag * sum (λ i. oneIf (test i)) n
 sum-flag test true n = sum-same (λ i. oneIf (test i && true)) (λ i. oneIf (test i)) n (λ i h. whole (test i)) ∙ sym (one-mul (sum (λ i. oneIf (test i)) n))
   where
     whole : (t : Bool) → oneIf (t && true) ≡ oneIf t

@@ -1,6 +1,6 @@
 // One case, a line of each call. What is written: code, place, used, readings and peak; of a pass every number of the
-// result, and its left-over byte where there is one; of the forward pass how many bytes of working memory are not 0 before
-// the call, and how many after it.
+// result, and its left-over byte where there is one; of the forward pass how many bytes of working memory are not 0
+// before the call, and how many after it.
 ghost use Prim.Native.Nat.{_≤_};
 use records::Answer;
 

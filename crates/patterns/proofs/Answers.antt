@@ -6,7 +6,8 @@ use Prim.Native.Nat.{ℕ, _+_, _*_, _≤_, _<_}
 use borrow.Author.Tests.{lt-ltb, le-ltb, eq-eqb, ne-eqb, ltb-false, eqb-true}
 use lib.ListN.{length}
 use Rattle.patterns.specs.declared.Checked.{Checked}
-use Rattle.patterns.specs.Patterns.{headerBytes, conditionBytes, mostVariables, mostConditions, edition, variableCount, conditionCount, headerZero, headerBroken}
+use Rattle.patterns.specs.Patterns.{headerBytes, conditionBytes, mostVariables, mostConditions, edition}
+use Rattle.patterns.specs.Patterns.{variableCount, conditionCount, headerZero, headerBroken}
 use Rattle.patterns.specs.Checked.{patternOf, refused, firstBadVariable, firstBadCondition, patternAnswer}
 use Rattle.numbers.proofs.Cases.{neither, not-not}
 
@@ -51,20 +52,24 @@ module _ (bytes : List ℕ) where
       answer-length h = rw (le-ltb _ _ long, head, ne-eqb _ _ h, patternAnswer)
 
       module _ (whole : length bytes ≡ wholeLength bytes) where
-        pub answer-variable : (v : ℕ) → v ≡ firstBadVariable bytes → v < variableCount bytes → patternAnswer bytes ≡ refused 3 v
+        pub answer-variable :
+            (v : ℕ) → v ≡ firstBadVariable bytes → v < variableCount bytes → patternAnswer bytes ≡ refused 3 v
         unfolding patternAnswer
         answer-variable v e h =
             let l = rw e at h in
             rw (le-ltb _ _ long, head, eq-eqb _ _ whole, lt-ltb _ _ l, patternAnswer) (ap (refused 3) (sym e))
 
         module _ (variables : variableCount bytes ≤ firstBadVariable bytes) where
-          pub answer-condition : (i : ℕ) → i ≡ firstBadCondition bytes → i < conditionCount bytes → patternAnswer bytes ≡ refused 4 i
+          pub answer-condition :
+              (i : ℕ) → i ≡ firstBadCondition bytes → i < conditionCount bytes → patternAnswer bytes ≡ refused 4 i
           unfolding patternAnswer
           answer-condition i e h =
               let l = rw e at h in
               rw (le-ltb _ _ long, head, eq-eqb _ _ whole, le-ltb _ _ variables, lt-ltb _ _ l, patternAnswer) (ap (refused 4) (sym e))
 
-          pub answer-pattern : conditionCount bytes ≤ firstBadCondition bytes → patternAnswer bytes ≡ record { code = 0; place = 0; pattern = patternOf bytes }
+          pub answer-pattern :
+              conditionCount bytes ≤ firstBadCondition bytes
+              → patternAnswer bytes ≡ record { code = 0; place = 0; pattern = patternOf bytes }
           unfolding patternAnswer
           answer-pattern h = rw (le-ltb _ _ long, head, eq-eqb _ _ whole, le-ltb _ _ variables, le-ltb _ _ h, patternAnswer)
 

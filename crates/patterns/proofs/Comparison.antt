@@ -1,5 +1,5 @@
--- Laws of the comparison: raising by 2^31 keeps the order of whole numbers, an order says what it is named after, and the
--- table of operators says what each operator's sign says. Assumes nothing.
+-- Laws of the comparison: raising by 2^31 keeps the order of whole numbers, an order says what it is named after, and
+-- the table of operators says what each operator's sign says. Assumes nothing.
 use mathlib.Core.Path.{_≡_, _∙_, refl, sym, ap, ap₂}
 use mathlib.Core.Bool.{Bool, true, false, xor, true≢false}
 use mathlib.Core.List.{List, [], _∷_}
@@ -12,7 +12,8 @@ use lib.ListN.{getD}
 use lib.Signed.{ltZ}
 use Rattle.patterns.specs.declared.Condition.{Condition}
 use Rattle.patterns.specs.Patterns.{lastOperator}
-use Rattle.patterns.specs.Comparison.{signed, value, constantValue, less, equal, greater, orders, orderOf, meets, comparedWith, holds, raise}
+use Rattle.patterns.specs.Comparison.{signed, value, constantValue, less, equal, greater, orders, orderOf, meets}
+use Rattle.patterns.specs.Comparison.{comparedWith, holds, raise}
 use Rattle.records.specs.declared.Record.{Record}
 use Rattle.numbers.specs.Numbers.{first, firstFrom, oneIf}
 use Rattle.numbers.proofs.Cases.{by-test, by-order}
@@ -120,11 +121,13 @@ low-value attribute r =
     (λ h. rw (e, f, g, h, value) (low-signed (r .amount))))))
 
 -- form 0 compares with the constant
-pub compared-constant : (k : Condition) (second : Record) → k .form ≡ 0 → comparedWith k second ≡ constantValue (k .attribute) (k .constant)
+pub compared-constant :
+    (k : Condition) (second : Record) → k .form ≡ 0 → comparedWith k second ≡ constantValue (k .attribute) (k .constant)
 unfolding comparedWith
 compared-constant k second e = rw (eq-eqb _ _ e, comparedWith)
 
-pub compared-value : (k : Condition) (second : Record) → (k .form ≡ 0 → ⊥) → comparedWith k second ≡ value (k .attribute2) second
+pub compared-value :
+    (k : Condition) (second : Record) → (k .form ≡ 0 → ⊥) → comparedWith k second ≡ value (k .attribute2) second
 unfolding comparedWith
 compared-value k second e = rw (ne-eqb _ _ e, comparedWith)
 
@@ -163,14 +166,20 @@ order-raise a b l m =
     (λ h. greater-order (pos (raise a)) (pos (raise b)) (less-raise m l ∙ h) ∙ sym (greater-order a b h))
 
 -- a condition holds where the raised numbers meet its operator
-pub meets-raised : (k : Condition) (first second : Record) → holds k first second ≡ meets (k .operator) (orderOf (pos (raise (value (k .attribute) first))) (pos (raise (comparedWith k second))))
+pub meets-raised :
+    (k : Condition) (first second : Record)
+    → holds k first second
+    ≡ meets (k .operator) (orderOf (pos (raise (value (k .attribute) first))) (pos (raise (comparedWith k second))))
 unfolding holds
 meets-raised k first second =
     ap (meets (k .operator))
     (sym (order-raise (value (k .attribute) first) (comparedWith k second) (low-value (k .attribute) first) (low-compared k second)))
 
 -- the same, of two numbers that are the raised ones
-pub raised-holds : (k : Condition) (first second : Record) (x y : ℕ) → x ≡ raise (value (k .attribute) first) → y ≡ raise (comparedWith k second) → meets (k .operator) (orderOf (pos x) (pos y)) ≡ holds k first second
+pub raised-holds :
+    (k : Condition) (first second : Record) (x y : ℕ)
+    → x ≡ raise (value (k .attribute) first) → y ≡ raise (comparedWith k second)
+    → meets (k .operator) (orderOf (pos x) (pos y)) ≡ holds k first second
 raised-holds k first second x y e f = rw (e, f) (sym (meets-raised k first second))
 
 -- ## Operators

@@ -14,10 +14,15 @@ use Rattle.numbers.proofs.Count.{count-ext}
 use Rattle.numbers.proofs.First.{first-fails}
 use Rattle.patterns.specs.declared.Checked.{Checked}
 use Rattle.patterns.specs.declared.Condition.{Condition}
-use Rattle.patterns.specs.Patterns.{headerBytes, mostVariables, mostConditions, mostSets, mostInSet, lastAttribute, lastOperator, headerBroken, variableCount, conditionCount, setNumber, members, leastSet, greatestSet, variableBroken, conditionOf, conditionWord, conditionZero, conditionBroken, formBroken}
-use Rattle.patterns.specs.Checked.{patternUpTo, patternOf, refused, firstBadVariable, firstBadCondition, patternAnswer, conditionAt, setOf, InOrder}
+use Rattle.patterns.specs.Patterns.{headerBytes, mostVariables, mostConditions, mostSets, mostInSet}
+use Rattle.patterns.specs.Patterns.{lastAttribute, lastOperator, headerBroken, variableCount, conditionCount}
+use Rattle.patterns.specs.Patterns.{setNumber, members, leastSet, greatestSet, variableBroken, conditionOf}
+use Rattle.patterns.specs.Patterns.{conditionWord, conditionZero, conditionBroken, formBroken}
+use Rattle.patterns.specs.Checked.{patternUpTo, patternOf, refused, firstBadVariable, firstBadCondition}
+use Rattle.patterns.specs.Checked.{patternAnswer, conditionAt, setOf, InOrder}
 use Rattle.patterns.proofs.Filled.{filled-at}
-use Rattle.patterns.proofs.Answers.{header-in-order, wholeLength, answer-short, answer-header, answer-length, answer-variable, answer-condition, answer-pattern}
+use Rattle.patterns.proofs.Answers.{header-in-order, wholeLength, answer-short, answer-header, answer-length}
+use Rattle.patterns.proofs.Answers.{answer-variable, answer-condition, answer-pattern}
 
 -- ## What the check has found of a pattern that it accepts
 
@@ -85,7 +90,8 @@ form-one : (word : ℕ) → conditionOf word .form ≤ 1
 unfolding conditionOf
 form-one word = omega arith
 
-form-in-order : (n : ℕ) (k : Condition) → 1 ≤ n → formBroken n k ≡ false → (k .variable2 < n) × (k .attribute2 ≤ lastAttribute)
+form-in-order :
+    (n : ℕ) (k : Condition) → 1 ≤ n → formBroken n k ≡ false → (k .variable2 < n) × (k .attribute2 ≤ lastAttribute)
 unfolding formBroken
 form-in-order n k some h =
     by-test (eqb (k .form) 0)
@@ -125,7 +131,8 @@ module _ (bytes : List ℕ) where
   unfolding patternOf patternUpTo
   set-of v h = filled-at mostVariables 0 (setNumber bytes) (variableCount bytes) v 0 h
 
-  pub condition-of : (i : ℕ) → i < conditionCount bytes → conditionAt (patternOf bytes) i ≡ conditionOf (conditionWord bytes i)
+  pub condition-of :
+      (i : ℕ) → i < conditionCount bytes → conditionAt (patternOf bytes) i ≡ conditionOf (conditionWord bytes i)
   unfolding patternOf patternUpTo conditionAt
   condition-of i h =
       let at : (f : Condition → ℕ) → _ = λ (f : Condition → ℕ). filled-at mostConditions 0 (λ k. f (conditionOf (conditionWord bytes k))) (conditionCount bytes) i 0 h in
@@ -172,21 +179,27 @@ module _ (bytes : List ℕ) where
     unfolding firstBadVariable
     variable-kept v h = variable-in-order bytes v (first-fails (variableBroken bytes) (variableCount bytes) v (omega (arith, a .variables)))
 
-    condition-kept : (i : ℕ) → i < conditionCount bytes → ConditionInOrder (variableCount bytes) (conditionAt (patternOf bytes) i)
+    condition-kept :
+        (i : ℕ) → i < conditionCount bytes → ConditionInOrder (variableCount bytes) (conditionAt (patternOf bytes) i)
     unfolding firstBadCondition
     condition-kept i h =
         let k = condition-in-order (variableCount bytes) (conditionWord bytes i) (header-in-order bytes (a .head) .some)
         (first-fails (λ j. conditionBroken (variableCount bytes) (conditionWord bytes j)) (conditionCount bytes) i (omega (arith, a .conditions))) in
         subst (ConditionInOrder (variableCount bytes)) (sym (condition-of i h)) k
 
-    set-kept : (v : ℕ) → suc v < variableCount bytes → (setOf (patternOf bytes) v ≤ setOf (patternOf bytes) (suc v)) × (setOf (patternOf bytes) (suc v) ≤ setOf (patternOf bytes) v + 1)
+    set-kept :
+        (v : ℕ) → suc v < variableCount bytes
+        → (setOf (patternOf bytes) v ≤ setOf (patternOf bytes) (suc v))
+        × (setOf (patternOf bytes) (suc v) ≤ setOf (patternOf bytes) v + 1)
     set-kept v h =
         let k = variable-kept (suc v) h in
         let here = set-of v (omega arith) in
         let next = set-of (suc v) h in
         (omega (arith, k .least, least-next v), omega (arith, k .greatest, greatest-next v))
 
-    small-kept : (v : ℕ) → v < variableCount bytes → count (λ u. eqb (setOf (patternOf bytes) u) (setOf (patternOf bytes) v)) (variableCount bytes) ≤ mostInSet
+    small-kept :
+        (v : ℕ) → v < variableCount bytes
+        → count (λ u. eqb (setOf (patternOf bytes) u) (setOf (patternOf bytes) v)) (variableCount bytes) ≤ mostInSet
     small-kept v h =
         let set = setOf (patternOf bytes) v in
         let e = count-ext (λ u. eqb (setOf (patternOf bytes) u) set) (λ u. eqb (setNumber bytes u) set) (variableCount bytes) (λ u l. ap (λ (x : ℕ). eqb x set) (set-of u l)) in

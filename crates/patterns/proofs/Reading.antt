@@ -7,7 +7,8 @@ use lib.ListN.{length, set}
 use Rattle.numbers.specs.Numbers.{upto}
 use Rattle.patterns.specs.declared.Condition.{Condition}
 use Rattle.patterns.specs.declared.Pattern.{Pattern}
-use Rattle.patterns.specs.Patterns.{mostVariables, mostConditions, variableCount, conditionCount, duration, setNumber, groupFlag, conditionOf, conditionWord}
+use Rattle.patterns.specs.Patterns.{mostVariables, mostConditions, variableCount, conditionCount, duration}
+use Rattle.patterns.specs.Patterns.{setNumber, groupFlag, conditionOf, conditionWord}
 use Rattle.patterns.specs.Checked.{filled, patternUpTo, withCondition, blank}
 use Rattle.patterns.proofs.Filled.{filled-more, filled-length}
 
@@ -48,17 +49,25 @@ withCounts p n c d =
     }
 
 module _ (bytes : List ℕ) where
-  pub counts-read : (p : Pattern) (n c d : ℕ) → p ≡ blank → n ≡ variableCount bytes → c ≡ conditionCount bytes → d ≡ duration bytes → withCounts p n c d ≡ patternUpTo bytes 0 0
+  pub counts-read :
+      (p : Pattern) (n c d : ℕ) → p ≡ blank → n ≡ variableCount bytes → c ≡ conditionCount bytes → d ≡ duration bytes
+      → withCounts p n c d ≡ patternUpTo bytes 0 0
   unfolding patternUpTo filled blank upto
   counts-read p n c d e en ec ed = λ i. withCounts (e i) (en i) (ec i) (ed i)
 
-  pub variable-read : (p : Pattern) (v s : ℕ) (g : Bool) → v < mostVariables → p ≡ patternUpTo bytes v 0 → s ≡ setNumber bytes v → g ≡ groupFlag bytes v → withSets p (set (p .sets) v s) (set (p .groups) v g) ≡ patternUpTo bytes (v + 1) 0
+  pub variable-read :
+      (p : Pattern) (v s : ℕ) (g : Bool) → v < mostVariables
+      → p ≡ patternUpTo bytes v 0 → s ≡ setNumber bytes v → g ≡ groupFlag bytes v
+      → withSets p (set (p .sets) v s) (set (p .groups) v g) ≡ patternUpTo bytes (v + 1) 0
   unfolding patternUpTo
   variable-read p v s g h e es eg =
       (λ i. withSets (e i) (set (e i .sets) v (es i)) (set (e i .groups) v (eg i)))
       ∙ (λ i. withSets (patternUpTo bytes v 0) (filled-more mostVariables 0 (setNumber bytes) v h i) (filled-more mostVariables false (groupFlag bytes) v h i))
 
-  pub condition-read : (p q : Pattern) (n i : ℕ) (k : Condition) → i < mostConditions → q ≡ withCondition p i k → p ≡ patternUpTo bytes n i → k ≡ conditionOf (conditionWord bytes i) → q ≡ patternUpTo bytes n (i + 1)
+  pub condition-read :
+      (p q : Pattern) (n i : ℕ) (k : Condition) → i < mostConditions → q ≡ withCondition p i k
+      → p ≡ patternUpTo bytes n i → k ≡ conditionOf (conditionWord bytes i)
+      → q ≡ patternUpTo bytes n (i + 1)
   unfolding patternUpTo
   condition-read p q n i k h eq e ek =
       let field : (Condition → ℕ) → ℕ → ℕ = λ f j. f (conditionOf (conditionWord bytes j)) in
@@ -81,10 +90,12 @@ module _ (bytes : List ℕ) where
       })
 
   -- the places of the sets and groups
-  pub sets-room : (p : Pattern) (v : ℕ) → v ≤ mostVariables → p ≡ patternUpTo bytes v 0 → length (p .sets) ≡ mostVariables
+  pub sets-room :
+      (p : Pattern) (v : ℕ) → v ≤ mostVariables → p ≡ patternUpTo bytes v 0 → length (p .sets) ≡ mostVariables
   unfolding patternUpTo
   sets-room p v h e = ap (λ (q : Pattern). length (q .sets)) e ∙ filled-length mostVariables 0 (setNumber bytes) v h
 
-  pub groups-room : (p : Pattern) (v : ℕ) → v ≤ mostVariables → p ≡ patternUpTo bytes v 0 → length (p .groups) ≡ mostVariables
+  pub groups-room :
+      (p : Pattern) (v : ℕ) → v ≤ mostVariables → p ≡ patternUpTo bytes v 0 → length (p .groups) ≡ mostVariables
   unfolding patternUpTo
   groups-room p v h e = ap (λ (q : Pattern). length (q .groups)) e ∙ filled-length mostVariables false (groupFlag bytes) v h

@@ -8,7 +8,10 @@ use lib.ListN.{length, getD, set, replicate}
 use Rattle.patterns.specs.declared.Condition.{Condition}
 use Rattle.patterns.specs.declared.Pattern.{Pattern}
 use Rattle.patterns.specs.declared.Checked.{Checked}
-use Rattle.patterns.specs.Patterns.{headerBytes, mostVariables, mostConditions, conditionBytes, headerBroken, variableCount, conditionCount, duration, setNumber, groupFlag, variableBroken, conditionOf, conditionWord, conditionBroken, mostSets, mostInSet, lastAttribute, lastOperator}
+use Rattle.patterns.specs.Patterns.{headerBytes, mostVariables, mostConditions, conditionBytes, headerBroken}
+use Rattle.patterns.specs.Patterns.{variableCount, conditionCount, duration, setNumber, groupFlag, variableBroken}
+use Rattle.patterns.specs.Patterns.{conditionOf, conditionWord, conditionBroken, mostSets, mostInSet}
+use Rattle.patterns.specs.Patterns.{lastAttribute, lastOperator}
 use Rattle.numbers.specs.Numbers.{upto, first, count}
 
 -- Serves rule 2.4: so many places, the first of them filled by f, those beyond the count left empty
@@ -83,7 +86,8 @@ firstBadVariable bytes = first (variableBroken bytes) (variableCount bytes)
 
 -- Rule 8.4: c where all are in order
 unfoldable pub firstBadCondition : List ℕ → ℕ
-firstBadCondition bytes = first (λ i. conditionBroken (variableCount bytes) (conditionWord bytes i)) (conditionCount bytes)
+firstBadCondition bytes =
+    first (λ i. conditionBroken (variableCount bytes) (conditionWord bytes i)) (conditionCount bytes)
 
 -- Rules 7.3, 8.1, 8.14: what the check of a pattern answers
 unfoldable pub patternAnswer : List ℕ → Checked
@@ -92,16 +96,17 @@ patternAnswer bytes =
       | true ↦ refused 1 0
       | false ↦ elim (headerBroken bytes) [
         | true ↦ refused 2 0
-        | false ↦ elim (eqb (length bytes) (headerBytes + variableCount bytes + conditionBytes * conditionCount bytes)) [
-          | false ↦ refused 1 0
-          | true ↦ elim (ltb (firstBadVariable bytes) (variableCount bytes)) [
-            | true ↦ refused 3 (firstBadVariable bytes)
-            | false ↦ elim (ltb (firstBadCondition bytes) (conditionCount bytes)) [
-              | true ↦ refused 4 (firstBadCondition bytes)
-              | false ↦ record { code = 0; place = 0; pattern = patternOf bytes }
+        | false ↦
+            elim (eqb (length bytes) (headerBytes + variableCount bytes + conditionBytes * conditionCount bytes)) [
+              | false ↦ refused 1 0
+              | true ↦ elim (ltb (firstBadVariable bytes) (variableCount bytes)) [
+                | true ↦ refused 3 (firstBadVariable bytes)
+                | false ↦ elim (ltb (firstBadCondition bytes) (conditionCount bytes)) [
+                  | true ↦ refused 4 (firstBadCondition bytes)
+                  | false ↦ record { code = 0; place = 0; pattern = patternOf bytes }
+                ]
+              ]
             ]
-          ]
-        ]
       ]
     ]
 

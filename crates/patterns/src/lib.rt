@@ -5,7 +5,10 @@ ghost use lib.Dec.{eqb};
 ghost use lib.IntN.{pos};
 ghost use lib.ListN.{length};
 ghost use Rattle.numbers.specs.Numbers.{oneIf, first};
-ghost use Rattle.patterns.specs.Patterns.{headerBytes, mostVariables, mostConditions, conditionBytes, header, headerBroken, variableCount, conditionCount, setNumber, groupFlag, members, leastSet, greatestSet, variableBroken, conditionOf, conditionWord, conditionBroken, formBroken, lastOperator};
+ghost use Rattle.patterns.specs.Patterns.{headerBytes, mostVariables, mostConditions, conditionBytes, header};
+ghost use Rattle.patterns.specs.Patterns.{headerBroken, variableCount, conditionCount, setNumber, groupFlag};
+ghost use Rattle.patterns.specs.Patterns.{members, leastSet, greatestSet, variableBroken, conditionOf};
+ghost use Rattle.patterns.specs.Patterns.{conditionWord, conditionBroken, formBroken, lastOperator};
 ghost use Rattle.patterns.specs.Checked.{patternUpTo, withCondition, blank, patternAnswer, refused};
 ghost use Rattle.patterns.specs.Comparison.{signed, value, constantValue, orders, orderOf, meets, holds, raise};
 use records::Record;
@@ -261,7 +264,8 @@ fn is_condition_broken(n: u8, word: u64) -> bool
 // The first condition that is broken, or c.
 fn first_bad_condition(pattern: &[u8], n: usize, c: usize) -> usize
     requires { ⌜ (n ≡ variableCount (now pattern)) × (headerBytes + n + conditionBytes * c ≤ length (now pattern)) ⌝ }
-    ensures { λ r. ⌜ r ≡ first (λ i. conditionBroken (variableCount (now (pattern .entry))) (conditionWord (now (pattern .entry)) i)) c ⌝ }
+    ensures { λ r. ⌜ r ≡ first
+        (λ i. conditionBroken (variableCount (now (pattern .entry))) (conditionWord (now (pattern .entry)) i)) c ⌝ }
 {
     let mut i = 0;
     while i < c {
@@ -317,7 +321,8 @@ fn with_counts(pattern: &[u8]) -> Pattern
 
 // The pattern with its n variables.
 fn with_variables(pattern: &[u8], n: usize, p: Pattern) -> Pattern
-    requires { ⌜ (n ≤ mostVariables) × (headerBytes + n ≤ length (now pattern)) × (p ≡ patternUpTo (now pattern) 0 0) ⌝ }
+    requires { ⌜ (n ≤ mostVariables) × (headerBytes + n ≤ length (now pattern))
+        × (p ≡ patternUpTo (now pattern) 0 0) ⌝ }
     ensures { λ r. ⌜ r ≡ patternUpTo (now (pattern .entry)) n 0 ⌝ }
 {
     let mut q = p;
@@ -348,7 +353,8 @@ fn with_condition(p: Pattern, i: usize, k: Condition) -> Pattern
 
 // The pattern with its c conditions.
 fn with_conditions(pattern: &[u8], n: usize, c: usize, p: Pattern) -> Pattern
-    requires { ⌜ (n ≡ variableCount (now pattern)) × (c ≤ mostConditions) × (headerBytes + n + conditionBytes * c ≤ length (now pattern)) × (p ≡ patternUpTo (now pattern) n 0) ⌝ }
+    requires { ⌜ (n ≡ variableCount (now pattern)) × (c ≤ mostConditions)
+        × (headerBytes + n + conditionBytes * c ≤ length (now pattern)) × (p ≡ patternUpTo (now pattern) n 0) ⌝ }
     ensures { λ r. ⌜ r ≡ patternUpTo (now (pattern .entry)) n c ⌝ }
 {
     let mut q = p;

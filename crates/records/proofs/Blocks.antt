@@ -10,7 +10,8 @@ use lib.Dec.{eqb}
 use lib.ListN.{length}
 use Rattle.records.specs.declared.Answer.{Answer}
 use Rattle.records.specs.Records.{recordBytes, recordAt, recordCount}
-use Rattle.records.specs.Blocks.{mostRecords, refused, misfit, broken, late, recordRefusal, bad, firstBad, blockAnswer, InOrder}
+use Rattle.records.specs.Blocks.{mostRecords, refused, misfit, broken, late, recordRefusal, bad, firstBad}
+use Rattle.records.specs.Blocks.{blockAnswer, InOrder}
 use Rattle.numbers.proofs.Cases.{by-test, by-order}
 use Rattle.numbers.proofs.First.{first-at, first-none, first-fails, first-passes}
 
@@ -64,13 +65,18 @@ module _ (bytes : List ℕ) where
   bad-of i h = lt-ltb 0 (recordRefusal bytes i) (omega arith)
 
   -- the first bad record decides
-  pub answer-bad : (i : ℕ) → misfit bytes ≡ false → i < recordCount bytes → ((j : ℕ) → j < i → recordRefusal bytes j ≡ 0) → (recordRefusal bytes i ≡ 0 → ⊥) → blockAnswer bytes ≡ refused (recordRefusal bytes i) i
+  pub answer-bad :
+      (i : ℕ) → misfit bytes ≡ false → i < recordCount bytes
+      → ((j : ℕ) → j < i → recordRefusal bytes j ≡ 0) → (recordRefusal bytes i ≡ 0 → ⊥)
+      → blockAnswer bytes ≡ refused (recordRefusal bytes i) i
   unfolding blockAnswer firstBad
   answer-bad i m h g b =
       let e = first-at (bad bytes) (recordCount bytes) i h (λ j l. good-of j (g j l)) (bad-of i b) in
       rw (m, e, lt-ltb _ _ h, blockAnswer) (ap (λ (k : ℕ). refused (recordRefusal bytes k) k) e)
 
-  pub answer-good : misfit bytes ≡ false → ((j : ℕ) → j < recordCount bytes → recordRefusal bytes j ≡ 0) → blockAnswer bytes ≡ record { code = 0; place = 0; used = recordCount bytes; readings = 0; peak = 0 }
+  pub answer-good :
+      misfit bytes ≡ false → ((j : ℕ) → j < recordCount bytes → recordRefusal bytes j ≡ 0)
+      → blockAnswer bytes ≡ record { code = 0; place = 0; used = recordCount bytes; readings = 0; peak = 0 }
   unfolding blockAnswer firstBad
   answer-good m g =
       let e = first-none (bad bytes) (recordCount bytes) (λ j l. good-of j (g j l)) in
@@ -131,7 +137,9 @@ module _ (bytes : List ℕ) where
       (λ l. in-order-of m (λ j k. none-of j (first-fails (bad bytes) (recordCount bytes) j (omega arith)))))
 
   -- a block in order is accepted, with its count of records
-  pub in-order-accepted : InOrder bytes → blockAnswer bytes ≡ record { code = 0; place = 0; used = recordCount bytes; readings = 0; peak = 0 }
+  pub in-order-accepted :
+      InOrder bytes
+      → blockAnswer bytes ≡ record { code = 0; place = 0; used = recordCount bytes; readings = 0; peak = 0 }
   in-order-accepted o =
       answer-good (fitting (o .whole) (o .few))
       (λ j h. refusal-none j (o .sound j h) (late-rising j (λ k e. subst (λ (i : ℕ). recordAt bytes k .time < recordAt bytes i .time) e (o .rising k (omega arith)))))

@@ -37,7 +37,8 @@ late bytes i = ltb 0 i && leb (recordAt bytes i .time) (recordAt bytes (i - 1) .
 
 -- Rule 8.14: the number that record i is refused with; 0 where it is in order
 unfoldable pub recordRefusal : List ℕ → ℕ → ℕ
-recordRefusal bytes i = elim (broken (recordAt bytes i)) [ true ↦ 6 | false ↦ elim (late bytes i) [ true ↦ 7 | false ↦ 0 ] ]
+recordRefusal bytes i =
+    elim (broken (recordAt bytes i)) [ true ↦ 6 | false ↦ elim (late bytes i) [ true ↦ 7 | false ↦ 0 ] ]
 
 -- Rule 8.14
 unfoldable pub bad : List ℕ → ℕ → Bool

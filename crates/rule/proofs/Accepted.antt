@@ -28,10 +28,14 @@ pub record Told (p : Pattern) (B : Block) (room : ℕ) (o : Outcome) : Type 0 wh
   pub numbers : o .numbers ≡ pack lines ++ replicate (room - length (pack lines)) 0
 
 module _ (p : Pattern) (B : Block) (room : ℕ) where
-  not-refused : {P : Type 0} (o : Outcome) (code place : ℕ) → o ≡ refusedWith room (suc code) place → o .answer .code ≡ 0 → P
+  not-refused :
+      {P : Type 0} (o : Outcome) (code place : ℕ) → o ≡ refusedWith room (suc code) place → o .answer .code ≡ 0 → P
   not-refused o code place e z = let q = ap (λ (x : Outcome). x .answer .code) e in absurd (omega arith)
 
-  told-of : (o : Outcome) (lines : List Line) (peak : ℕ) → ((i : ℕ) → ¬ TooLong p B i) → Report p B (length B) lines → length (pack lines) ≤ room → o ≡ success room lines peak → Told p B room o
+  told-of :
+      (o : Outcome) (lines : List Line) (peak : ℕ) → ((i : ℕ) → ¬ TooLong p B i)
+      → Report p B (length B) lines → length (pack lines) ≤ room → o ≡ success room lines peak
+      → Told p B room o
   told-of o lines peak short report fits e =
       record {
         lines = lines;
@@ -74,12 +78,18 @@ pub record CallTold (pattern block : List ℕ) (lent : ℕ) (answer : Answer) (r
   pub bytes : result ≡ resultOf lent numbers
 
 module _ (pattern block : List ℕ) where
-  pub start-by-start-told : (lent : ℕ) (answer : Answer) (result : List ℕ) → StartByStartCall pattern block lent answer result → answer .code ≡ 0 → CallTold pattern block lent answer result
+  pub start-by-start-told :
+      (lent : ℕ) (answer : Answer) (result : List ℕ)
+      → StartByStartCall pattern block lent answer result → answer .code ≡ 0
+      → CallTold pattern block lent answer result
   start-by-start-told lent answer result (StartByStartCall.refused-input n e r) z = absurd (n (sym (ap (λ (a : Answer). a .code) e) ∙ z))
   start-by-start-told lent answer result (StartByStartCall.answered a numbers h r) z =
       record { accepted = a; numbers = numbers; told = start-told (patternIn pattern) (blockIn block) (roomIn lent) (record { answer = answer; numbers = numbers }) h z; bytes = r }
 
-  pub forward-call-told : (limit lentWork lentResult : ℕ) (answer : Answer) (work result : List ℕ) → ForwardCall pattern block limit lentWork lentResult answer work result → answer .code ≡ 0 → CallTold pattern block lentResult answer result
+  pub forward-call-told :
+      (limit lentWork lentResult : ℕ) (answer : Answer) (work result : List ℕ)
+      → ForwardCall pattern block limit lentWork lentResult answer work result → answer .code ≡ 0
+      → CallTold pattern block lentResult answer result
   forward-call-told limit lentWork lentResult answer work result (ForwardCall.refused-input n e w r) z = absurd (n (sym (ap (λ (a : Answer). a .code) e) ∙ z))
   forward-call-told limit lentWork lentResult answer work result (ForwardCall.refused-limit a n e w r) z = let q = ap (λ (a : Answer). a .code) e in absurd (omega arith)
   forward-call-told limit lentWork lentResult answer work result (ForwardCall.answered a l numbers h w r) z =

@@ -1,5 +1,5 @@
--- The promises of the calls fix what they answer: any two answers and memories that meet the promise of one call are equal,
--- and for every input there are some that do. Assumes nothing.
+-- The promises of the calls fix what they answer: any two answers and memories that meet the promise of one call are
+-- equal, and for every input there are some that do. Assumes nothing.
 use mathlib.Core.Path.{_≡_, refl, sym, ap, _∙_}
 use mathlib.Core.List.{List}
 use Prim.Native.Nat.{ℕ, _*_, _≤_}
@@ -8,7 +8,8 @@ use Rattle.records.specs.declared.Answer.{Answer}
 use Rattle.records.specs.Blocks.{refused}
 use Rattle.rule.specs.Rule.{TimesNeverFall}
 use Rattle.rule.specs.Promises.{Outcome}
-use Rattle.rule.specs.Calls.{inputAnswer, patternIn, blockIn, zeros, roomIn, resultOf, StartByStartCall, MeasureCall, LimitInOrder, ForwardCall, workPerReading, mostLive}
+use Rattle.rule.specs.Calls.{inputAnswer, patternIn, blockIn, zeros, roomIn, resultOf, StartByStartCall}
+use Rattle.rule.specs.Calls.{MeasureCall, LimitInOrder, ForwardCall, workPerReading, mostLive}
 use Rattle.rule.specs.Computed.{forward}
 use Rattle.rule.specs.Starts.{startAnswer, measureAnswer}
 use Rattle.rule.proofs.StartAnswers.{one-start, start-answer-is, measure-answer-is, one-measure}
@@ -18,7 +19,10 @@ use Rattle.rule.proofs.Inputs.{input-in-order, times-never-fall}
 -- ## Each promise fixes its answer
 
 module _ (pattern block : List ℕ) where
-  pub start-by-start-one : (lent : ℕ) (a b : Answer) (result other : List ℕ) → StartByStartCall pattern block lent a result → StartByStartCall pattern block lent b other → (a ≡ b) × (result ≡ other)
+  pub start-by-start-one :
+      (lent : ℕ) (a b : Answer) (result other : List ℕ)
+      → StartByStartCall pattern block lent a result → StartByStartCall pattern block lent b other
+      → (a ≡ b) × (result ≡ other)
   start-by-start-one lent a b result other (StartByStartCall.refused-input n e r) (StartByStartCall.refused-input m d s) = (e ∙ sym d, r ∙ sym s)
   start-by-start-one lent a b result other (StartByStartCall.refused-input n e r) (StartByStartCall.answered z numbers h s) = absurd (n z)
   start-by-start-one lent a b result other (StartByStartCall.answered z numbers h r) (StartByStartCall.refused-input m d s) = absurd (m z)
@@ -34,7 +38,11 @@ module _ (pattern block : List ℕ) where
       one-measure (patternIn pattern) (blockIn block) (times-never-fall block (input-in-order pattern block z .ordered)) a b h g
 
   module _ (limit lentWork lentResult : ℕ) where
-    pub forward-one : (a b : Answer) (work otherWork result other : List ℕ) → ForwardCall pattern block limit lentWork lentResult a work result → ForwardCall pattern block limit lentWork lentResult b otherWork other → (a ≡ b) × (work ≡ otherWork) × (result ≡ other)
+    pub forward-one :
+        (a b : Answer) (work otherWork result other : List ℕ)
+        → ForwardCall pattern block limit lentWork lentResult a work result
+        → ForwardCall pattern block limit lentWork lentResult b otherWork other
+        → (a ≡ b) × (work ≡ otherWork) × (result ≡ other)
     forward-one a b work otherWork result other (ForwardCall.refused-input n e w r) (ForwardCall.refused-input m d v s) = (e ∙ sym d, w ∙ sym v, r ∙ sym s)
     forward-one a b work otherWork result other (ForwardCall.refused-input n e w r) (ForwardCall.refused-limit z m d v s) = absurd (n z)
     forward-one a b work otherWork result other (ForwardCall.refused-input n e w r) (ForwardCall.answered z l numbers h v s) = absurd (n z)
@@ -59,7 +67,8 @@ module _ (pattern block : List ℕ) where
       go (yes z) = accepted z
       go (no n) = refused n
 
-  pub start-by-start-met : (lent : ℕ) → (answer : Answer) × (result : List ℕ) × StartByStartCall pattern block lent answer result
+  pub start-by-start-met :
+      (lent : ℕ) → (answer : Answer) × (result : List ℕ) × StartByStartCall pattern block lent answer result
   start-by-start-met lent =
       by-code
       (λ z. let o = startAnswer (patternIn pattern) (blockIn block) (roomIn lent) in (o .answer, resultOf lent (o .numbers), StartByStartCall.answered z (o .numbers) (start-answer-is (patternIn pattern) (blockIn block) (times z) (roomIn lent)) refl))
@@ -81,7 +90,9 @@ module _ (pattern block : List ℕ) where
         go (yes a) (no b) c = broken (λ l. b (l .few))
         go (yes a) (yes b) (no c) = broken (λ l. c (l .room))
 
-    pub forward-met : (answer : Answer) × (work : List ℕ) × (result : List ℕ) × ForwardCall pattern block limit lentWork lentResult answer work result
+    pub forward-met :
+        (answer : Answer) × (work : List ℕ) × (result : List ℕ)
+        × ForwardCall pattern block limit lentWork lentResult answer work result
     forward-met =
         by-code
         (λ z.

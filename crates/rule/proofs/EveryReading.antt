@@ -15,7 +15,8 @@ use Rattle.patterns.specs.Checked.{setOf, isGroup}
 use Rattle.patterns.specs.Comparison.{holds}
 use Rattle.automaton.specs.Filtering.{all, filter, implies}
 use Rattle.automaton.specs.Automaton.{leaves, opens, loops, carries, conditions}
-use Rattle.rule.specs.Rule.{Block, Binding, Reading, PartialReading, startOf, InWindow, timeAt, recordIn, fires, choices, passes, inOrder, allowed, binds, TimesNeverFall}
+use Rattle.rule.specs.Rule.{Block, Binding, Reading, PartialReading, startOf, InWindow, timeAt, recordIn, fires}
+use Rattle.rule.specs.Rule.{choices, passes, inOrder, allowed, binds, TimesNeverFall}
 use Rattle.rule.specs.Growth.{Partial}
 use Rattle.rule.specs.Promises.{Twice}
 use Rattle.automaton.proofs.Membership.{both, clash, all-mem, filter-mem, map-mem, upto-mem}
@@ -43,7 +44,10 @@ unfolding binds
 mem-binds [] v h = absurd (false≢true h)
 mem-binds (x ∷ r) v h = go (λ k. mem-binds r v k) (either (eqb (x .variable) v) (binds r v) h)
   where
-    go : (binds r v ≡ true → (b : Binding) × List·Memᴰ b r × (b .variable ≡ v)) → (eqb (x .variable) v ≡ true) ⊎ (binds r v ≡ true) → (b : Binding) × List·Memᴰ b (x ∷ r) × (b .variable ≡ v)
+    go :
+        (binds r v ≡ true → (b : Binding) × List·Memᴰ b r × (b .variable ≡ v))
+        → (eqb (x .variable) v ≡ true) ⊎ (binds r v ≡ true)
+        → (b : Binding) × List·Memᴰ b (x ∷ r) × (b .variable ≡ v)
     go ih (inl e) = (x, List·Memᴰ·head refl, eqb-true _ _ e)
     go ih (inr k) = let q = ih k in (q .0, List·Memᴰ·tail (q .1), q .2)
 
@@ -77,11 +81,16 @@ module _ (p : Pattern) (B : Block) where
   unfolding choices
   new-choice r v j u e = subst (λ t. List·Memᴰ j (elim t [ true ↦ j ∷ [] | false ↦ map (λ (b : Binding). b .at) (filter (λ (b : Binding). eqb (b .variable) u) r) ])) (sym (eq-eqb u v e)) (List·Memᴰ·head refl)
 
-  old-choice : (r : Reading) (v j u : ℕ) → ¬ (u ≡ v) → {b : Binding} → List·Memᴰ b r → b .variable ≡ u → List·Memᴰ (b .at) (choices r v j u)
+  old-choice :
+      (r : Reading) (v j u : ℕ) → ¬ (u ≡ v) → {b : Binding} → List·Memᴰ b r → b .variable ≡ u
+      → List·Memᴰ (b .at) (choices r v j u)
   unfolding choices
   old-choice r v j u n {b} m e = subst (λ t. List·Memᴰ (b .at) (elim t [ true ↦ j ∷ [] | false ↦ map (λ (b : Binding). b .at) (filter (λ (b : Binding). eqb (b .variable) u) r) ])) (sym (ne-eqb u v n)) (map-mem (λ (b : Binding). b .at) (filter-mem (λ (b : Binding). eqb (b .variable) u) m (eq-eqb _ _ e)))
 
-  carried-passes : (x : Binding) (r : Reading) → Partial p B (x ∷ r) → (c : Condition) → List·Memᴰ c (conditions p) → carries (binds r) (x .variable) c ≡ true → passes B r (x .variable) (x .at) c ≡ true
+  carried-passes :
+      (x : Binding) (r : Reading) → Partial p B (x ∷ r) → (c : Condition)
+      → List·Memᴰ c (conditions p) → carries (binds r) (x .variable) c ≡ true
+      → passes B r (x .variable) (x .at) c ≡ true
   unfolding fires allowed
   carried-passes x r h c m k = given (carries (binds r) (x .variable) c) (all-mem _ m (both {a = inOrder p B r (x .variable) (x .at)} (both {a = leaves p (binds r) (x .variable)} (step-fires x r h) .1) .1)) k
 
@@ -89,19 +98,29 @@ module _ (p : Pattern) (B : Block) where
   unfolding carries
   carries-const S v c f e = subst (λ t. (elim t [ true ↦ eqb (c .variable) v | false ↦ (eqb (c .variable) v && (eqb (c .variable2) v || S (c .variable2))) || (eqb (c .variable2) v && S (c .variable)) ]) ≡ true) (sym (eq-eqb _ _ f)) (eq-eqb _ _ e)
 
-  carries-first : (S : ℕ → Bool) (v : ℕ) (c : Condition) → ¬ (c .form ≡ 0) → c .variable ≡ v → eqb (c .variable2) v || S (c .variable2) ≡ true → carries S v c ≡ true
+  carries-first :
+      (S : ℕ → Bool) (v : ℕ) (c : Condition) → ¬ (c .form ≡ 0)
+      → c .variable ≡ v → eqb (c .variable2) v || S (c .variable2) ≡ true
+      → carries S v c ≡ true
   unfolding carries
   carries-first S v c f e h = subst (λ t. (elim t [ true ↦ eqb (c .variable) v | false ↦ (eqb (c .variable) v && (eqb (c .variable2) v || S (c .variable2))) || (eqb (c .variable2) v && S (c .variable)) ]) ≡ true) (sym (ne-eqb _ _ f)) (ap (λ t. t || (eqb (c .variable2) v && S (c .variable))) (ap₂ _&&_ (eq-eqb _ _ e) h))
 
-  carries-second : (S : ℕ → Bool) (v : ℕ) (c : Condition) → ¬ (c .form ≡ 0) → c .variable2 ≡ v → S (c .variable) ≡ true → carries S v c ≡ true
+  carries-second :
+      (S : ℕ → Bool) (v : ℕ) (c : Condition) → ¬ (c .form ≡ 0) → c .variable2 ≡ v → S (c .variable) ≡ true
+      → carries S v c ≡ true
   unfolding carries
   carries-second S v c f e h = subst (λ t. (elim t [ true ↦ eqb (c .variable) v | false ↦ (eqb (c .variable) v && (eqb (c .variable2) v || S (c .variable2))) || (eqb (c .variable2) v && S (c .variable)) ]) ≡ true) (sym (ne-eqb _ _ f)) (or-right (eqb (c .variable) v && (eqb (c .variable2) v || S (c .variable2))) (ap₂ _&&_ (eq-eqb _ _ e) h))
 
-  passes-const : (r : Reading) (v j : ℕ) (c : Condition) → c .form ≡ 0 → passes B r v j c ≡ true → holds c (recordIn B j) (recordIn B j) ≡ true
+  passes-const :
+      (r : Reading) (v j : ℕ) (c : Condition) → c .form ≡ 0 → passes B r v j c ≡ true
+      → holds c (recordIn B j) (recordIn B j) ≡ true
   unfolding passes
   passes-const r v j c f h = subst (λ t. (elim t [ true ↦ holds c (recordIn B j) (recordIn B j) | false ↦ all (λ i. all (λ k. holds c (recordIn B i) (recordIn B k)) (choices r v j (c .variable2))) (choices r v j (c .variable)) ]) ≡ true) (eq-eqb _ _ f) h
 
-  passes-pair : (r : Reading) (v j : ℕ) (c : Condition) → ¬ (c .form ≡ 0) → passes B r v j c ≡ true → {i k : ℕ} → List·Memᴰ i (choices r v j (c .variable)) → List·Memᴰ k (choices r v j (c .variable2)) → holds c (recordIn B i) (recordIn B k) ≡ true
+  passes-pair :
+      (r : Reading) (v j : ℕ) (c : Condition) → ¬ (c .form ≡ 0) → passes B r v j c ≡ true → {i k : ℕ}
+      → List·Memᴰ i (choices r v j (c .variable)) → List·Memᴰ k (choices r v j (c .variable2))
+      → holds c (recordIn B i) (recordIn B k) ≡ true
   unfolding passes
   passes-pair r v j c f h {i} {k} m n =
       let q = subst (λ t. (elim t [ true ↦ holds c (recordIn B j) (recordIn B j) | false ↦ all (λ i. all (λ k. holds c (recordIn B i) (recordIn B k)) (choices r v j (c .variable2))) (choices r v j (c .variable)) ]) ≡ true) (ne-eqb _ _ f) h in
@@ -111,13 +130,20 @@ module _ (p : Pattern) (B : Block) where
   earlier x [] h m = absurd (List·Memᴰ·not-nil m)
   earlier x (y ∷ r) h m = h .0
 
-  pub constant-holds : (r : Reading) → Partial p B r → (c : Condition) → List·Memᴰ c (conditions p) → c .form ≡ 0 → (a : Binding) → List·Memᴰ a r → a .variable ≡ c .variable → holds c (recordIn B (a .at)) (recordIn B (a .at)) ≡ true
+  pub constant-holds :
+      (r : Reading) → Partial p B r → (c : Condition) → List·Memᴰ c (conditions p)
+      → c .form ≡ 0 → (a : Binding) → List·Memᴰ a r → a .variable ≡ c .variable
+      → holds c (recordIn B (a .at)) (recordIn B (a .at)) ≡ true
   constant-holds (x ∷ r) h c m f a (List·Memᴰ·tail i) e = constant-holds r (earlier x r h i) c m f a i e
   constant-holds (x ∷ r) h c m f a (List·Memᴰ·head d) e =
       subst (λ (b : Binding). holds c (recordIn B (b .at)) (recordIn B (b .at)) ≡ true) (sym d)
       (passes-const r (x .variable) (x .at) c f (carried-passes x r h c m (carries-const (binds r) (x .variable) c f (sym e ∙ ap (λ (b : Binding). b .variable) d))))
 
-  pub pair-holds : (r : Reading) → Partial p B r → (c : Condition) → List·Memᴰ c (conditions p) → ¬ (c .form ≡ 0) → (a b : Binding) → List·Memᴰ a r → List·Memᴰ b r → a .variable ≡ c .variable → b .variable ≡ c .variable2 → (c .variable ≡ c .variable2 → a ≡ b) → holds c (recordIn B (a .at)) (recordIn B (b .at)) ≡ true
+  pub pair-holds :
+      (r : Reading) → Partial p B r → (c : Condition) → List·Memᴰ c (conditions p) → ¬ (c .form ≡ 0)
+      → (a b : Binding) → List·Memᴰ a r → List·Memᴰ b r → a .variable ≡ c .variable
+      → b .variable ≡ c .variable2 → (c .variable ≡ c .variable2 → a ≡ b)
+      → holds c (recordIn B (a .at)) (recordIn B (b .at)) ≡ true
   pair-holds (x ∷ r) h c m f a b (List·Memᴰ·tail i) (List·Memᴰ·tail j) d e s = pair-holds r (earlier x r h i) c m f a b i j d e s
   pair-holds (x ∷ r) h c m f a b (List·Memᴰ·head i) (List·Memᴰ·head j) d e s =
       let dx = sym d ∙ ap (λ (b : Binding). b .variable) i in
@@ -147,7 +173,9 @@ module _ (p : Pattern) (B : Block) where
 
   -- ## Set order
 
-  pub opens-or-loops : (x : Binding) (r : Reading) → Partial p B (x ∷ r) → (opens p (binds r) (x .variable) ≡ true) ⊎ (loops p (binds r) (x .variable) ≡ true)
+  pub opens-or-loops :
+      (x : Binding) (r : Reading) → Partial p B (x ∷ r)
+      → (opens p (binds r) (x .variable) ≡ true) ⊎ (loops p (binds r) (x .variable) ≡ true)
   unfolding fires leaves
   opens-or-loops x r h = either (opens p (binds r) (x .variable)) (loops p (binds r) (x .variable)) (both {a = ltb (x .variable) (p .n)} (both {a = leaves p (binds r) (x .variable)} (step-fires x r h) .0) .1)
 
@@ -177,19 +205,28 @@ module _ (p : Pattern) (B : Block) where
   binds-more x r u h = or-right (eqb (x .variable) u) h
 
   -- with a variable all of the earlier sets is bound
-  state-of : (r : Reading) → Partial p B r → {b : Binding} → List·Memᴰ b r → (u : ℕ) → u < p .n → setOf p u < setOf p (b .variable) → binds r u ≡ true
+  state-of :
+      (r : Reading) → Partial p B r → {b : Binding} → List·Memᴰ b r
+      → (u : ℕ) → u < p .n → setOf p u < setOf p (b .variable)
+      → binds r u ≡ true
   state-of (x ∷ r) h (List·Memᴰ·tail m) u l g = binds-more x r u (state-of r (earlier x r h m) m u l g)
   state-of (x ∷ r) h {b} (List·Memᴰ·head e) u l g = binds-more x r u (go (λ c i. state-of r (earlier x r h i) i u l) (opens-or-loops x r h))
     where
       g′ : setOf p u < setOf p (x .variable)
       g′ = subst (λ (y : Binding). setOf p u < setOf p (y .variable)) e g
 
-      go : ((c : Binding) → List·Memᴰ c r → setOf p u < setOf p (c .variable) → binds r u ≡ true) → (opens p (binds r) (x .variable) ≡ true) ⊎ (loops p (binds r) (x .variable) ≡ true) → binds r u ≡ true
+      go :
+          ((c : Binding) → List·Memᴰ c r → setOf p u < setOf p (c .variable) → binds r u ≡ true)
+          → (opens p (binds r) (x .variable) ≡ true) ⊎ (loops p (binds r) (x .variable) ≡ true)
+          → binds r u ≡ true
       go ih (inl o) = opens-earlier (binds r) (x .variable) u o l g′
       go ih (inr o) = let q = mem-binds r (x .variable) (loops-bound (binds r) (x .variable) o) in ih (q .0) (q .1) (subst (λ v. setOf p u < setOf p v) (sym (q .2)) g′)
 
   -- a binding of an earlier set is an earlier record
-  pub set-order : (r : Reading) → Partial p B r → (a b : Binding) → List·Memᴰ a r → List·Memᴰ b r → setOf p (a .variable) < setOf p (b .variable) → a .at < b .at
+  pub set-order :
+      (r : Reading) → Partial p B r → (a b : Binding) → List·Memᴰ a r
+      → List·Memᴰ b r → setOf p (a .variable) < setOf p (b .variable)
+      → a .at < b .at
   set-order (x ∷ r) h a b (List·Memᴰ·tail i) (List·Memᴰ·tail j) g = set-order r (earlier x r h i) a b i j g
   set-order (x ∷ r) h a b (List·Memᴰ·tail i) (List·Memᴰ·head e) g = omega (arith, below x r h i, ap (λ (c : Binding). c .at) e)
   set-order (x ∷ r) h a b (List·Memᴰ·head d) (List·Memᴰ·head e) g = let q = ap (λ (c : Binding). setOf p (c .variable)) (d ∙ sym e) in absurd (omega arith)
@@ -204,11 +241,15 @@ module _ (p : Pattern) (B : Block) where
 
   -- ## Duration
 
-  pub bound-span : (r : Reading) → Partial p B r → {b : Binding} → List·Memᴰ b r → (startOf r ≤ b .at) × InWindow p B r (b .at)
+  pub bound-span :
+      (r : Reading) → Partial p B r → {b : Binding} → List·Memᴰ b r → (startOf r ≤ b .at) × InWindow p B r (b .at)
   bound-span (x ∷ []) h (List·Memᴰ·tail m) = absurd (List·Memᴰ·not-nil m)
   bound-span (x ∷ []) h (List·Memᴰ·head e) = let q = ap (λ (c : Binding). c .at) e in (omega arith, subst (λ n. timeAt B n ≤ timeAt B (x .at) + p .duration) (sym q) (omega arith))
   bound-span (x ∷ y ∷ r) h (List·Memᴰ·tail m) = bound-span (y ∷ r) (h .0) m
   bound-span (x ∷ y ∷ r) h (List·Memᴰ·head e) = let q = ap (λ (c : Binding). c .at) e in (omega (arith, start-le p B (y ∷ r) (h .0), h .1 .later), subst (λ n. timeAt B n ≤ timeAt B (startOf (y ∷ r)) + p .duration) (sym q) (h .2 .near))
 
-  pub duration : TimesNeverFall B → (r : Reading) → Partial p B r → (a b : Binding) → List·Memᴰ a r → List·Memᴰ b r → a .at < length B → timeAt B (b .at) ≤ timeAt B (a .at) + p .duration
+  pub duration :
+      TimesNeverFall B → (r : Reading) → Partial p B r → (a b : Binding)
+      → List·Memᴰ a r → List·Memᴰ b r → a .at < length B
+      → timeAt B (b .at) ≤ timeAt B (a .at) + p .duration
   duration mono r h a b i j l = omega (arith, bound-span r h j .1, mono (startOf r) (a .at) (bound-span r h i .0) l)

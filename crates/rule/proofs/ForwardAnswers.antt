@@ -28,7 +28,9 @@ module _ {A : Type 0} where
   any-yes f [] h = absurd (false≢true h)
   any-yes f (x ∷ l) h = go (f x) refl h (λ k. any-yes f l k)
     where
-      go : (b : Bool) → f x ≡ b → b || any f l ≡ true → (any f l ≡ true → (a : A) × List·Memᴰ a l × (f a ≡ true)) → (a : A) × List·Memᴰ a (x ∷ l) × (f a ≡ true)
+      go :
+          (b : Bool) → f x ≡ b → b || any f l ≡ true → (any f l ≡ true → (a : A) × List·Memᴰ a l × (f a ≡ true))
+          → (a : A) × List·Memᴰ a (x ∷ l) × (f a ≡ true)
       go true e h ih = (x, List·Memᴰ·head refl, e)
       go false e h ih = let q = ih h in (q .0, List·Memᴰ·tail (q .1), q .2)
 
@@ -77,7 +79,9 @@ module _ (p : Pattern) (B : Block) (mono : TimesNeverFall B) (L room : ℕ) wher
   peak-most zero (suc k) h = absurd (omega arith)
   peak-most (suc n) k h = go (peak-most n k) (ℕ-discrete k (suc n))
     where
-      go : (k ≤ n → length (live p B k) ≤ peak p B n) → Dec (k ≡ suc n) → length (live p B k) ≤ max (length (live p B (suc n))) (peak p B n)
+      go :
+          (k ≤ n → length (live p B k) ≤ peak p B n) → Dec (k ≡ suc n)
+          → length (live p B k) ≤ max (length (live p B (suc n))) (peak p B n)
       go ih (yes e) = omega (arith, ap (λ i. length (live p B i)) e)
       go ih (no d) = omega (arith, ih (omega arith))
 
@@ -86,11 +90,15 @@ module _ (p : Pattern) (B : Block) (mono : TimesNeverFall B) (L room : ℕ) wher
   peak-when zero = (0, omega arith, refl)
   peak-when (suc n) = go (peak-when n) (decLe (length (live p B (suc n))) (peak p B n))
     where
-      go : (k : ℕ) × (k ≤ n) × (length (live p B k) ≡ peak p B n) → Dec (length (live p B (suc n)) ≤ peak p B n) → (k : ℕ) × (k ≤ suc n) × (length (live p B k) ≡ max (length (live p B (suc n))) (peak p B n))
+      go :
+          (k : ℕ) × (k ≤ n) × (length (live p B k) ≡ peak p B n) → Dec (length (live p B (suc n)) ≤ peak p B n)
+          → (k : ℕ) × (k ≤ suc n) × (length (live p B k) ≡ max (length (live p B (suc n))) (peak p B n))
       go q (yes h) = (q .0, omega (arith, q .1), omega (arith, q .2))
       go q (no h) = (suc n, omega arith, omega arith)
 
-  peak-reached : (k : ℕ) → k ≤ length B → length (live p B k) ≡ peak p B (length B) → (peak p B (length B) ≡ 0) ⊎ ((j : ℕ) × (j < length B) × LiveCount p B j (peak p B (length B)))
+  peak-reached :
+      (k : ℕ) → k ≤ length B → length (live p B k) ≡ peak p B (length B)
+      → (peak p B (length B) ≡ 0) ⊎ ((j : ℕ) × (j < length B) × LiveCount p B j (peak p B (length B)))
   unfolding live
   peak-reached zero h e = inl (sym e)
   peak-reached (suc j) h e = inr (j, h, subst (LiveCount p B j) e (count p B mono j))
@@ -137,8 +145,12 @@ module _ (p : Pattern) (B : Block) (mono : TimesNeverFall B) (L room : ℕ) wher
       upto-3 : None j 2 → None j 3
       upto-3 k = none-more j 2 k (never-13 j)
 
-      go : (a b c : Bool) → isMet p B L room j 0 ≡ a → isMet p B L room j 1 ≡ b → isMet p B L room j 3 ≡ c → (None (suc j) 0 → Forward p B L room (scan p B L room (suc j) n))
-          → Forward p B L room (elim a [ true ↦ refusal room j 0 | false ↦ elim b [ true ↦ refusal room j 1 | false ↦ elim c [ true ↦ refusal room j 3 | false ↦ scan p B L room (suc j) n ] ] ])
+      go : (a b c : Bool) → isMet p B L room j 0 ≡ a → isMet p B L room j 1 ≡ b → isMet p B L room j 3 ≡ c
+          → (None (suc j) 0 → Forward p B L room (scan p B L room (suc j) n))
+          → Forward p B L room (elim a [
+            | true ↦ refusal room j 0
+            | false ↦ elim b [ true ↦ refusal room j 1 | false ↦ elim c [ true ↦ refusal room j 3 | false ↦ scan p B L room (suc j) n ] ]
+          ])
       go true b c x y z ih = at 0 x h
       go false true c x y z ih = at 1 y (none-more j 0 h x)
       go false false true x y z ih = at 3 z (upto-3 (none-more j 1 (none-more j 0 h x) y))
@@ -161,7 +173,8 @@ below-peak p B m n a b = go (a .reached)
     go (inr (j, l, c)) = b .most j m l c
 
 -- two answers are one
-pub one-answer : (p : Pattern) (B : Block) (L room : ℕ) (a b : Outcome) → Forward p B L room a → Forward p B L room b → a ≡ b
+pub one-answer :
+    (p : Pattern) (B : Block) (L room : ℕ) (a b : Outcome) → Forward p B L room a → Forward p B L room b → a ≡ b
 one-answer p B L room a b (succeeds l m n r k e) (succeeds l′ m′ n′ r′ k′ e′) = e ∙ ap₂ (success room) (one-report p B (length B) l l′ r r′) peaks ∙ sym e′
   where
     peaks : m ≡ m′

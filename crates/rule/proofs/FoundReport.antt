@@ -2,7 +2,8 @@
 -- start by start, and so the report. Assumes nothing.
 use mathlib.Core.Path.{_≡_, refl, sym, ap, ap₂, subst, _∙_}
 use mathlib.Core.Bool.{Bool, true, false}
-use mathlib.Core.List.{List, [], _∷_, _++_, map, append-nil, List·Memᴰ, List·Memᴰ·head, List·Memᴰ·not-nil, Memᴰ·append-left, Memᴰ·append-right}
+use mathlib.Core.List.{List, [], _∷_, _++_, map, append-nil, List·Memᴰ, List·Memᴰ·head, List·Memᴰ·not-nil}
+use mathlib.Core.List.{Memᴰ·append-left, Memᴰ·append-right}
 use Prim.Native.Nat.{ℕ, zero, suc, _+_, _-_, _<_}
 use native.Mathlib.Omega.{arith}
 use lib.ListN.{length}
@@ -14,17 +15,22 @@ use Rattle.patterns.specs.declared.Pattern.{Pattern}
 use Rattle.automaton.specs.Filtering.{keep, filter, collect}
 use Rattle.automaton.specs.Automaton.{variablesOf}
 use Rattle.automaton.proofs.Membership.{clash, mem-filter}
-use Rattle.rule.specs.Rule.{Block, Binding, Reading, Line, fires, isFull, startOf, timeAt, pastMark, gapMark, endMark}
+use Rattle.rule.specs.Rule.{Block, Binding, Reading, Line, fires, isFull, startOf, timeAt, pastMark, gapMark}
+use Rattle.rule.specs.Rule.{endMark}
 use Rattle.rule.specs.Growth.{IsReport}
 use Rattle.rule.specs.Promises.{mostBindings}
-use Rattle.rule.specs.Computed.{isEvent, inWindow, only, orElse, fired, extend, line, lines, closing, grow, begin, startByStart}
+use Rattle.rule.specs.Computed.{isEvent, inWindow, only, orElse, fired, extend, line, lines, closing, grow, begin}
+use Rattle.rule.specs.Computed.{startByStart}
 use Rattle.rule.specs.Starts.Found.{closed, over}
-use Rattle.rule.specs.Starts.{Found, isPast, until, markAt, markOf, withBinding, anyFires, inTurn, close, skipUntil, branchUntil, startFound, foundFrom, foundAll, linesOf}
+use Rattle.rule.specs.Starts.{Found, isPast, until, markAt, markOf, withBinding, anyFires, inTurn, close}
+use Rattle.rule.specs.Starts.{skipUntil, branchUntil, startFound, foundFrom, foundAll, linesOf}
 use Rattle.rule.proofs.OnlyOrElse.{collect-same, collect-map}
 use Rattle.rule.proofs.LiveReadings.{fires-variable, event-yes, mem-fired, fired-mem}
 use Rattle.rule.proofs.Report.{event-in}
 use Rattle.rule.proofs.StartByStartReport.{start-by-start-is}
-use Rattle.rule.proofs.SkipBranch.{until-bound, until-after, before-until, at-until, stays-open, fires-any, any-fires, turn-mem, skip-passes, skip-closes, skip-takes, skip-over, start-event, start-gap, lines-append}
+use Rattle.rule.proofs.SkipBranch.{until-bound, until-after, before-until, at-until, stays-open, fires-any}
+use Rattle.rule.proofs.SkipBranch.{any-fires, turn-mem, skip-passes, skip-closes, skip-takes, skip-over}
+use Rattle.rule.proofs.SkipBranch.{start-event, start-gap, lines-append}
 
 -- no reading would take a binding too many
 abbrev pub NoneOver : List Found → Type 0
@@ -55,7 +61,9 @@ module _ (p : Pattern) (B : Block) where
   out-window r j e = lt-leb (timeAt B j) (timeAt B (startOf r) + p .duration) (ltb-true (timeAt B (startOf r) + p .duration) (timeAt B j) e)
 
   -- past the window it closes
-  grow-past : (n j : ℕ) (r : Reading) → isEvent B j ≡ true → inWindow p B r j ≡ false → grow p B (suc n) j r ≡ lines p (markAt B j) (r ∷ [])
+  grow-past :
+      (n j : ℕ) (r : Reading) → isEvent B j ≡ true → inWindow p B r j ≡ false
+      → grow p B (suc n) j r ≡ lines p (markAt B j) (r ∷ [])
   unfolding grow closing markAt extend only collect filter keep
   grow-past n j r e w = rw (e, w, closing, markAt) (append-nil (lines p pastMark (r ∷ [])))
 
@@ -64,12 +72,17 @@ module _ (p : Pattern) (B : Block) where
   unfolding grow closing markAt only collect
   grow-gap n j r e = rw (e, closing, markAt) (append-nil _ ∙ go (ltb j (length B)))
     where
-      go : (t : Bool) → elim t [ true ↦ lines p gapMark (r ∷ []) | false ↦ lines p endMark (r ∷ []) ] ≡ lines p (elim t [ true ↦ gapMark | false ↦ endMark ]) (r ∷ [])
+      go :
+          (t : Bool)
+          → elim t [ true ↦ lines p gapMark (r ∷ []) | false ↦ lines p endMark (r ∷ []) ]
+          ≡ lines p (elim t [ true ↦ gapMark | false ↦ endMark ]) (r ∷ [])
       go true = refl
       go false = refl
 
   -- in the window it goes on
-  grow-on : (n j : ℕ) (r : Reading) → isEvent B j ≡ true → inWindow p B r j ≡ true → grow p B (suc n) j r ≡ collect (grow p B n (suc j)) (orElse r (fired p B j r))
+  grow-on :
+      (n j : ℕ) (r : Reading) → isEvent B j ≡ true → inWindow p B r j ≡ true
+      → grow p B (suc n) j r ≡ collect (grow p B n (suc j)) (orElse r (fired p B j r))
   unfolding grow closing lines extend only filter keep
   grow-on n j r e w = rw (e, w, closing)
 
@@ -89,7 +102,9 @@ module _ (p : Pattern) (B : Block) where
       go [] q = let f = any-fires p B r j e in absurd (List·Memᴰ·not-nil (subst (List·Memᴰ (withBinding r (f .0) j)) q (fired-mem p B j r (f .0) (f .1))))
       go (s ∷ l) q = refl
 
-  collect-fired : (f : Reading → List Line) (j : ℕ) (r : Reading) → collect f (fired p B j r) ≡ collect (λ v. f (withBinding r v j)) (filter (λ v. fires p B r v j) (variablesOf p))
+  collect-fired :
+      (f : Reading → List Line) (j : ℕ) (r : Reading)
+      → collect f (fired p B j r) ≡ collect (λ v. f (withBinding r v j)) (filter (λ v. fires p B r v j) (variablesOf p))
   unfolding fired
   collect-fired f j r = collect-map f (λ v. withBinding r v j) (filter (λ v. fires p B r v j) (variablesOf p))
 
@@ -107,7 +122,10 @@ module _ (p : Pattern) (B : Block) where
     AsGrown n j = (b : Binding) (r : Reading) → startOf (b ∷ r) ≡ i → NoneOver (skips j (b ∷ r)) → linesOf (skips j (b ∷ r)) ≡ grow p B n j (b ∷ r)
 
     -- each variable that fires, in turn
-    branch-lines : (f : Reading → List Line) (j : ℕ) (r : Reading) → ((v : ℕ) → NoneOver (skips (suc j) (withBinding r v j)) → linesOf (skips (suc j) (withBinding r v j)) ≡ f (withBinding r v j)) → NoneOver (branches j r) → linesOf (branches j r) ≡ collect f (fired p B j r)
+    branch-lines :
+        (f : Reading → List Line) (j : ℕ) (r : Reading) → ((v : ℕ) → NoneOver (skips (suc j) (withBinding r v j))
+        → linesOf (skips (suc j) (withBinding r v j)) ≡ f (withBinding r v j)) → NoneOver (branches j r)
+        → linesOf (branches j r) ≡ collect f (fired p B j r)
     unfolding inTurn
     branch-lines f j r each h =
         let z : p .n - 0 ≡ p .n = omega arith in
@@ -126,7 +144,8 @@ module _ (p : Pattern) (B : Block) where
         apart v e k o = h k (turn-mem fire next 0 (p .n - 0) v (omega arith) (omega (arith, fires-variable p B r v j e)) e o)
 
     -- at the record where it closes
-    grow-ends : (n : ℕ) (r : Reading) → startOf r ≡ i → grow p B (suc n) (until p B i) r ≡ lines p (markOf p B i) (r ∷ [])
+    grow-ends :
+        (n : ℕ) (r : Reading) → startOf r ≡ i → grow p B (suc n) (until p B i) r ≡ lines p (markOf p B i) (r ∷ [])
     grow-ends n r s = by-test (isEvent B (until p B i)) (λ v. grow-past n (until p B i) r v (out-window r (until p B i) (past v))) (λ v. grow-gap n (until p B i) r v)
       where
         past : isEvent B (until p B i) ≡ true → isPast p B (startOf r) (until p B i) ≡ true
@@ -140,13 +159,19 @@ module _ (p : Pattern) (B : Block) where
         ∙ sym (grow-ends n (b ∷ r) s)
         ∙ ap (λ k. grow p B (suc n) k (b ∷ r)) (sym e)
 
-    lines-passed : (n j : ℕ) → j < until p B i → AsGrown n (suc j) → (b : Binding) (r : Reading) → startOf (b ∷ r) ≡ i → NoneOver (skips j (b ∷ r)) → anyFires p B (b ∷ r) j ≡ false → linesOf (skips j (b ∷ r)) ≡ collect (grow p B n (suc j)) (orElse (b ∷ r) (fired p B j (b ∷ r)))
+    lines-passed :
+        (n j : ℕ) → j < until p B i → AsGrown n (suc j) → (b : Binding) (r : Reading)
+        → startOf (b ∷ r) ≡ i → NoneOver (skips j (b ∷ r)) → anyFires p B (b ∷ r) j ≡ false
+        → linesOf (skips j (b ∷ r)) ≡ collect (grow p B n (suc j)) (orElse (b ∷ r) (fired p B j (b ∷ r)))
     unfolding collect
     lines-passed n j l ih b r s h a =
         let q = skip-passes p B (markOf p B i) (until p B i) (b ∷ r) j l a in
         ap linesOf q ∙ ih b r s (λ k o. h k (rw q o)) ∙ sym (append-nil (grow p B n (suc j) (b ∷ r))) ∙ sym (ap (collect (grow p B n (suc j))) (none-fired j (b ∷ r) a))
 
-    lines-taken : (n j : ℕ) → j < until p B i → AsGrown n (suc j) → (b : Binding) (r : Reading) → startOf (b ∷ r) ≡ i → NoneOver (skips j (b ∷ r)) → anyFires p B (b ∷ r) j ≡ true → linesOf (skips j (b ∷ r)) ≡ collect (grow p B n (suc j)) (orElse (b ∷ r) (fired p B j (b ∷ r)))
+    lines-taken :
+        (n j : ℕ) → j < until p B i → AsGrown n (suc j) → (b : Binding) (r : Reading)
+        → startOf (b ∷ r) ≡ i → NoneOver (skips j (b ∷ r)) → anyFires p B (b ∷ r) j ≡ true
+        → linesOf (skips j (b ∷ r)) ≡ collect (grow p B n (suc j)) (orElse (b ∷ r) (fired p B j (b ∷ r)))
     lines-taken n j l ih b r s h a = by-order (length (b ∷ r)) mostBindings
         (λ m.
         let q = skip-takes p B (markOf p B i) (until p B i) (b ∷ r) j l a m in
@@ -163,7 +188,9 @@ module _ (p : Pattern) (B : Block) where
         by-test (anyFires p B (b ∷ r) j) (lines-taken n j m ih b r s h) (lines-passed n j m ih b r s h)
         ∙ sym (grow-on n j (b ∷ r) (w .0) (in-window (b ∷ r) j (subst (λ k. isPast p B k j ≡ false) (sym s) (w .1))))
 
-    lines-start : (n : ℕ) → i + n ≡ length B → NoneOver (startFound p B i) → linesOf (startFound p B i) ≡ collect (grow p B n (suc i)) (only (isEvent B i) (fired p B i []))
+    lines-start :
+        (n : ℕ) → i + n ≡ length B → NoneOver (startFound p B i)
+        → linesOf (startFound p B i) ≡ collect (grow p B n (suc i)) (only (isEvent B i) (fired p B i []))
     unfolding only collect linesOf
     lines-start n e h = by-test (isEvent B i)
         (λ v.
@@ -176,7 +203,8 @@ module _ (p : Pattern) (B : Block) where
 
   -- ## All starts
 
-  lines-from : (n i : ℕ) → i + n ≡ length B → NoneOver (foundFrom p B i n) → linesOf (foundFrom p B i n) ≡ begin p B (suc n) i
+  lines-from :
+      (n i : ℕ) → i + n ≡ length B → NoneOver (foundFrom p B i n) → linesOf (foundFrom p B i n) ≡ begin p B (suc n) i
   unfolding foundFrom begin upto collect linesOf only
   lines-from zero i e h = by-test (isEvent B i) (λ v. absurd (omega (arith, event-in p B i (event-yes p B i v)))) (λ v. rw v)
   lines-from (suc n) i e h =

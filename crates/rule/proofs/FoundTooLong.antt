@@ -11,18 +11,23 @@ use Rattle.numbers.specs.Numbers.{upto}
 use Rattle.numbers.proofs.Cases.{by-test, by-order}
 use Rattle.patterns.specs.declared.Pattern.{Pattern}
 use Rattle.automaton.proofs.Membership.{clash, mem-collect, collect-mem, upto-mem}
-use Rattle.rule.specs.Rule.{Block, Binding, Reading, Event, InWindow, fires, startOf, lastOf, timeAt, TimesNeverFall, isFull}
+use Rattle.rule.specs.Rule.{Block, Binding, Reading, Event, InWindow, fires, startOf, lastOf, timeAt}
+use Rattle.rule.specs.Rule.{TimesNeverFall, isFull}
 use Rattle.rule.specs.Growth.{Partial, Kept, Taken, Live}
 use Rattle.rule.specs.Promises.{TooLong, mostBindings}
 use Rattle.rule.specs.Computed.{isEvent, fired}
 use Rattle.rule.specs.Starts.Found.{closed, over}
-use Rattle.rule.specs.Starts.{Found, isPast, closesAt, until, markOf, withBinding, anyFires, close, skipUntil, branchUntil, startFound, foundFrom, foundAll, leastOver}
+use Rattle.rule.specs.Starts.{Found, isPast, closesAt, until, markOf, withBinding, anyFires, close, skipUntil}
+use Rattle.rule.specs.Starts.{branchUntil, startFound, foundFrom, foundAll, leastOver}
 use Rattle.rule.proofs.OnlyOrElse.{mem-only, only-mem, or-else-mem, or-else-self}
-use Rattle.rule.proofs.LiveReadings.{fires-variable, event-yes, yes-event, mem-fired, fired-mem, started, extended, in-extend}
+use Rattle.rule.proofs.LiveReadings.{fires-variable, event-yes, yes-event, mem-fired, fired-mem, started}
+use Rattle.rule.proofs.LiveReadings.{extended, in-extend}
 use Rattle.rule.proofs.LiveOrder.{start-le}
 use Rattle.rule.proofs.Report.{spans, event-in}
 use Rattle.rule.proofs.Written.{partial-of, partial-to}
-use Rattle.rule.proofs.SkipBranch.{until-after, before-until, at-until, stays-open, fires-any, any-fires, none-fires, mem-turn, turn-mem, skip-passes, skip-closes, skip-takes, skip-over, skip-to, least-none}
+use Rattle.rule.proofs.SkipBranch.{until-after, before-until, at-until, stays-open, fires-any, any-fires}
+use Rattle.rule.proofs.SkipBranch.{none-fires, mem-turn, turn-mem, skip-passes, skip-closes, skip-takes}
+use Rattle.rule.proofs.SkipBranch.{skip-over, skip-to, least-none}
 
 module _ (p : Pattern) (B : Block) where
   abbrev skips : ℕ → ℕ → Reading → List Found
@@ -34,10 +39,14 @@ module _ (p : Pattern) (B : Block) where
   unfolding isPast
   near-by r j e = ltb-false (timeAt B (startOf r) + p .duration) (timeAt B j) e
 
-  live-on : (j : ℕ) (r : Reading) → Live p B r j → Event B j → InWindow p B r j → anyFires p B r j ≡ false → Live p B r (suc j)
+  live-on :
+      (j : ℕ) (r : Reading) → Live p B r j → Event B j → InWindow p B r j → anyFires p B r j ≡ false
+      → Live p B r (suc j)
   live-on j r l ev w a = extended p B j ev r l (in-extend p B j r w (or-else-self r (fired p B j r) (λ s m. let f = mem-fired p B j r m in clash (fires-any p B r j (f .0) (f .1)) a)))
 
-  live-more : (j : ℕ) (r : Reading) → Live p B r j → Event B j → InWindow p B r j → (v : ℕ) → fires p B r v j ≡ true → Live p B (withBinding r v j) (suc j)
+  live-more :
+      (j : ℕ) (r : Reading) → Live p B r j → Event B j → InWindow p B r j → (v : ℕ) → fires p B r v j ≡ true
+      → Live p B (withBinding r v j) (suc j)
   live-more j r l ev w v f = extended p B j ev r l (in-extend p B j r w (or-else-mem r (fired p B j r) (fired-mem p B j r v f)))
 
   -- ## Sound
@@ -54,7 +63,11 @@ module _ (p : Pattern) (B : Block) where
     abbrev OverLong : ℕ → Type 0
     OverLong j = (b : Binding) (r : Reading) → startOf (b ∷ r) ≡ i → Live p B (b ∷ r) j → length (b ∷ r) ≤ mostBindings → (k : ℕ) → List·Memᴰ (over k) (skips i j (b ∷ r)) → TooLong p B k
 
-    over-taken : (j : ℕ) → j < until p B i → Event B j → OverLong (suc j) → (b : Binding) (r : Reading) → startOf (b ∷ r) ≡ i → Live p B (b ∷ r) j → InWindow p B (b ∷ r) j → length (b ∷ r) ≤ mostBindings → anyFires p B (b ∷ r) j ≡ true → (k : ℕ) → List·Memᴰ (over k) (skips i j (b ∷ r)) → TooLong p B k
+    over-taken :
+        (j : ℕ) → j < until p B i → Event B j → OverLong (suc j) → (b : Binding) (r : Reading)
+        → startOf (b ∷ r) ≡ i → Live p B (b ∷ r) j → InWindow p B (b ∷ r) j → length (b ∷ r) ≤ mostBindings
+        → anyFires p B (b ∷ r) j ≡ true → (k : ℕ) → List·Memᴰ (over k) (skips i j (b ∷ r))
+        → TooLong p B k
     over-taken j l ev ih b r s g near few a k m = by-order (length (b ∷ r)) mostBindings
         (λ q.
         let t = mem-turn (λ v. fires p B (b ∷ r) v j) (λ v. skips i (suc j) (withBinding (b ∷ r) v j)) 0 (p .n - 0) (rw (skip-takes p B (markOf p B i) (until p B i) (b ∷ r) j l a q) at m) in
@@ -96,7 +109,8 @@ module _ (p : Pattern) (B : Block) where
   unfolding isPast
   open-at r j ev w = stays-open p B (startOf r) j (yes-event p B j ev) (le-ltb (timeAt B (startOf r) + p .duration) (timeAt B j) w)
 
-  taken-before : (r : Reading) (a : Binding) → Partial p B r → Kept p B r (a .at) → Taken p B r a → a .at < until p B (startOf r)
+  taken-before :
+      (r : Reading) (a : Binding) → Partial p B r → Kept p B r (a .at) → Taken p B r a → a .at < until p B (startOf r)
   taken-before r a h g t = by-order (a .at) (until p B (startOf r)) (λ l. l) late
     where
       late : until p B (startOf r) ≤ a .at → a .at < until p B (startOf r)
@@ -126,19 +140,25 @@ module _ (p : Pattern) (B : Block) where
         skip-to p B (markOf p B start) (until p B start) (b ∷ r) (suc (b .at)) (a .at) (h .1 .later) (omega (arith, before-end))
         (λ k lo hi. none-fires p B (b ∷ r) k (λ v l. h .1 .passed k lo hi .none v))
 
-    to-branch : length (b ∷ r) < mostBindings → follows (b ∷ r) ≡ branchUntil p B (markOf p B start) (until p B start) (a .at) (b ∷ r) 0
+    to-branch :
+        length (b ∷ r) < mostBindings
+        → follows (b ∷ r) ≡ branchUntil p B (markOf p B start) (until p B start) (a .at) (b ∷ r) 0
     to-branch l = to-next ∙ skip-takes p B (markOf p B start) (until p B start) (b ∷ r) (a .at) before-end fires-next l
 
     to-over : mostBindings ≤ length (b ∷ r) → follows (b ∷ r) ≡ over (a .at) ∷ []
     to-over l = to-next ∙ skip-over p B (markOf p B start) (until p B start) (b ∷ r) (a .at) before-end fires-next l
 
-    in-branch : (x : Found) → length (b ∷ r) < mostBindings → List·Memᴰ x (follows (a ∷ b ∷ r)) → List·Memᴰ x (follows (b ∷ r))
+    in-branch :
+        (x : Found) → length (b ∷ r) < mostBindings → List·Memᴰ x (follows (a ∷ b ∷ r)) → List·Memᴰ x (follows (b ∷ r))
     in-branch x l m =
         rw (to-branch l)
         (turn-mem (λ v. fires p B (b ∷ r) v (a .at)) (λ v. skips start (suc (a .at)) (withBinding (b ∷ r) v (a .at))) 0 (p .n - 0) (a .variable) (omega arith) (omega (arith, fires-variable p B (b ∷ r) (a .variable) (a .at) (h .2 .fire))) (h .2 .fire) m)
 
   -- the pass comes to every reading that is not too long
-  listed : (b : Binding) (r : Reading) → Partial p B (b ∷ r) → length (b ∷ r) ≤ mostBindings → (x : Found) → List·Memᴰ x (follows (b ∷ r)) → List·Memᴰ x (foundAll p B)
+  listed :
+      (b : Binding) (r : Reading) → Partial p B (b ∷ r)
+      → length (b ∷ r) ≤ mostBindings → (x : Found) → List·Memᴰ x (follows (b ∷ r))
+      → List·Memᴰ x (foundAll p B)
   unfolding foundAll foundFrom startFound
   listed b [] h few x m =
       collect-mem (startFound p B) (upto-mem 0 (length B) (b .at) (omega arith) (omega (arith, event-in p B (b .at) (h .0))))
@@ -195,7 +215,10 @@ module _ (p : Pattern) (B : Block) (mono : TimesNeverFall B) where
     least-by : leastOver (length B) (foundAll p B) ≡ min (length B) (leastOver none (foundAll p B))
     least-by = let e : length B ≡ min (length B) none = omega arith in ap (λ k. leastOver k (foundAll p B)) e ∙ least-none (length B) none (foundAll p B)
 
-    pub least-found : leastOver none (foundAll p B) < none → (leastOver (length B) (foundAll p B) ≡ leastOver none (foundAll p B)) × (leastOver none (foundAll p B) < length B)
+    pub least-found :
+        leastOver none (foundAll p B) < none
+        → (leastOver (length B) (foundAll p B) ≡ leastOver none (foundAll p B))
+        × (leastOver none (foundAll p B) < length B)
     least-found h =
         let l = long-in (leastOver none (foundAll p B)) (over-long p B (leastOver none (foundAll p B)) (least-mem none (foundAll p B) h)) in
         (omega (arith, least-by), l)

@@ -1,6 +1,6 @@
--- What the caller's bytes stand for. A block in order is a list of records, each an event or a gap, whose times rise; and
--- the check of pattern and block accepts exactly what is in order, or gives a refusal from 1 to 7 with all counts 0.
--- Assumes nothing.
+-- What the caller's bytes stand for. A block in order is a list of records, each an event or a gap, whose times rise;
+-- and the check of pattern and block accepts exactly what is in order, or gives a refusal from 1 to 7 with all counts
+-- 0. Assumes nothing.
 use mathlib.Core.Path.{_≡_, refl, sym, ap, subst, _∙_}
 use mathlib.Core.Bool.{false}
 use mathlib.Core.List.{List}
@@ -14,14 +14,17 @@ use Rattle.numbers.proofs.Cases.{by-test, by-order}
 use Rattle.records.specs.declared.Answer.{Answer}
 use Rattle.records.specs.declared.Record.{Record}
 use Rattle.records.specs.Records.{recordAt, recordCount}
-use Rattle.records.specs.Blocks.{refused, mostRecords, misfit, broken, late, recordRefusal, firstBad, blockAnswer, InOrder}
+use Rattle.records.specs.Blocks.{refused, mostRecords, misfit, broken, late, recordRefusal, firstBad, blockAnswer}
+use Rattle.records.specs.Blocks.{InOrder}
 use Rattle.records.proofs.Listed.{length-records, record-listed}
-use Rattle.records.proofs.Blocks.{refusal-6, refusal-7, refusal-none, answer-misfit, accepted-in-order as block-accepted, in-order-accepted}
+use Rattle.records.proofs.Blocks.{refusal-6, refusal-7, refusal-none, answer-misfit}
+use Rattle.records.proofs.Blocks.{accepted-in-order as block-accepted, in-order-accepted}
 use Rattle.patterns.specs.declared.Checked.{Checked}
 use Rattle.patterns.specs.Patterns.{headerBytes, headerBroken, variableCount, conditionCount}
 use Rattle.patterns.specs.Checked.{patternAnswer, firstBadVariable, firstBadCondition, InOrder as PatternInOrder}
 use Rattle.patterns.proofs.InOrder.{accepted-in-order as pattern-accepted}
-use Rattle.patterns.proofs.Answers.{wholeLength, answer-short, answer-header, answer-length, answer-variable, answer-condition, answer-pattern}
+use Rattle.patterns.proofs.Answers.{wholeLength, answer-short, answer-header, answer-length, answer-variable}
+use Rattle.patterns.proofs.Answers.{answer-condition, answer-pattern}
 use Rattle.rule.specs.Rule.{recordIn, timeAt, TimesNeverFall, behindEnd}
 use Rattle.rule.specs.Calls.{inputAnswer, patternIn, blockIn}
 
@@ -43,12 +46,15 @@ module _ (bytes : List ℕ) where
     rise i zero l h = absurd (omega arith)
     rise i (suc j) l h = go (rise i j) (ℕ-discrete i j)
       where
-        go : (i < j → j < recordCount bytes → recordAt bytes i .time < recordAt bytes j .time) → Dec (i ≡ j) → recordAt bytes i .time < recordAt bytes (suc j) .time
+        go :
+            (i < j → j < recordCount bytes → recordAt bytes i .time < recordAt bytes j .time) → Dec (i ≡ j)
+            → recordAt bytes i .time < recordAt bytes (suc j) .time
         go ih (yes e) = subst (λ k. recordAt bytes k .time < recordAt bytes (suc j) .time) (sym e) (ordered .rising j h)
         go ih (no n) = omega (arith, ih (omega arith) (omega arith), ordered .rising j h)
 
     -- rule 1.5, of any two records
-    pub times-rise : (i j : ℕ) → i < j → j < length (blockIn bytes) → timeAt (blockIn bytes) i < timeAt (blockIn bytes) j
+    pub times-rise :
+        (i j : ℕ) → i < j → j < length (blockIn bytes) → timeAt (blockIn bytes) i < timeAt (blockIn bytes) j
     times-rise i j l h = let c = block-length in omega (arith, rise i j l (omega arith), block-time i (omega arith), block-time j (omega arith))
 
     pub times-never-fall : TimesNeverFall (blockIn bytes)
@@ -92,7 +98,9 @@ pattern-refusals bytes =
     coded e l = subst (λ (a : Checked). a .code ≤ 4) (sym e) l
 
 module _ (bytes : List ℕ) where
-  bad-record : misfit bytes ≡ false → firstBad bytes < recordCount bytes → blockAnswer bytes ≡ refused (recordRefusal bytes (firstBad bytes)) (firstBad bytes)
+  bad-record :
+      misfit bytes ≡ false → firstBad bytes < recordCount bytes
+      → blockAnswer bytes ≡ refused (recordRefusal bytes (firstBad bytes)) (firstBad bytes)
   unfolding blockAnswer
   bad-record m l = rw (m, lt-ltb (firstBad bytes) (recordCount bytes) l, blockAnswer)
 
@@ -107,7 +115,9 @@ module _ (bytes : List ℕ) where
       (λ m. told 5 0 (answer-misfit bytes m) (omega arith) (omega arith))
       (λ m. by-order (firstBad bytes) (recordCount bytes) (λ l. of-record (bad-record m l)) (λ l. absurd (n (no-bad-record m l))))
     where
-      told : (code place : ℕ) → blockAnswer bytes ≡ refused code place → 5 ≤ code → code ≤ 7 → RefusedFrom 5 7 (blockAnswer bytes)
+      told :
+          (code place : ℕ) → blockAnswer bytes ≡ refused code place → 5 ≤ code → code ≤ 7
+          → RefusedFrom 5 7 (blockAnswer bytes)
       told code place e l m = subst (RefusedFrom 5 7) (sym e) (record { from = l; upTo = m; used = refl; readings = refl; peak = refl })
 
       of-record : {i : ℕ} → blockAnswer bytes ≡ refused (recordRefusal bytes i) i → RefusedFrom 5 7 (blockAnswer bytes)
@@ -127,7 +137,9 @@ pub record InputsInOrder (pattern block : List ℕ) : Type 0 where
 
 module _ (pattern block : List ℕ) where
   -- a refusal of the pattern comes first
-  pub input-pattern : ¬ (patternAnswer pattern .code ≡ 0) → inputAnswer pattern block ≡ refused (patternAnswer pattern .code) (patternAnswer pattern .place)
+  pub input-pattern :
+      ¬ (patternAnswer pattern .code ≡ 0)
+      → inputAnswer pattern block ≡ refused (patternAnswer pattern .code) (patternAnswer pattern .place)
   unfolding inputAnswer
   input-pattern n = rw (ne-eqb (patternAnswer pattern .code) 0 n, inputAnswer)
 
@@ -136,7 +148,11 @@ module _ (pattern block : List ℕ) where
   unfolding inputAnswer
   input-block e = rw (eq-eqb (patternAnswer pattern .code) 0 e, inputAnswer)
 
-  by-input : {P : Type 0} → (¬ (patternAnswer pattern .code ≡ 0) → inputAnswer pattern block ≡ refused (patternAnswer pattern .code) (patternAnswer pattern .place) → P) → (patternAnswer pattern .code ≡ 0 → inputAnswer pattern block ≡ blockAnswer block → P) → P
+  by-input :
+      {P : Type 0} → (¬ (patternAnswer pattern .code ≡ 0)
+      → inputAnswer pattern block ≡ refused (patternAnswer pattern .code) (patternAnswer pattern .place) → P)
+      → (patternAnswer pattern .code ≡ 0 → inputAnswer pattern block ≡ blockAnswer block → P)
+      → P
   by-input {P} first then = go (ℕ-discrete (patternAnswer pattern .code) 0)
     where
       go : Dec (patternAnswer pattern .code ≡ 0) → P
@@ -144,7 +160,8 @@ module _ (pattern block : List ℕ) where
       go (no n) = first n (input-pattern n)
 
   -- code 0: both are accepted
-  pub input-accepts : inputAnswer pattern block .code ≡ 0 → (patternAnswer pattern .code ≡ 0) × (blockAnswer block .code ≡ 0)
+  pub input-accepts :
+      inputAnswer pattern block .code ≡ 0 → (patternAnswer pattern .code ≡ 0) × (blockAnswer block .code ≡ 0)
   input-accepts z = by-input
       (λ n e. absurd (n (sym (ap (λ (a : Answer). a .code) e) ∙ z)))
       (λ p e. (p, sym (ap (λ (a : Answer). a .code) e) ∙ z))

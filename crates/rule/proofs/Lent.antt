@@ -12,7 +12,8 @@ use Rattle.records.specs.Blocks.{refused}
 use Rattle.patterns.specs.declared.Pattern.{Pattern}
 use Rattle.rule.specs.Rule.{Block, Line, pack}
 use Rattle.rule.specs.Promises.{Outcome, Forward, StartByStart, Measure, refusedWith, refusal, success}
-use Rattle.rule.specs.Calls.{inputAnswer, patternIn, blockIn, zeros, roomIn, resultOf, StartByStartCall, MeasureCall, ForwardCall}
+use Rattle.rule.specs.Calls.{inputAnswer, patternIn, blockIn, zeros, roomIn, resultOf, StartByStartCall}
+use Rattle.rule.specs.Calls.{MeasureCall, ForwardCall}
 use Rattle.rule.proofs.Inputs.{RefusedFrom, input-refused}
 
 -- ## What a pass refuses with
@@ -67,7 +68,9 @@ wider a b c d answer h l m = record { from = omega (arith, h .from); upTo = omeg
 of-pass : (answer : Answer) → RefusedFrom 9 13 answer → RefusedFrom 1 13 answer
 of-pass answer h = wider 1 9 13 13 answer h (omega arith) (omega arith)
 
-of-input : (pattern block : List ℕ) (answer : Answer) → answer ≡ inputAnswer pattern block → ¬ (answer .code ≡ 0) → RefusedFrom 1 13 answer
+of-input :
+    (pattern block : List ℕ) (answer : Answer) → answer ≡ inputAnswer pattern block → ¬ (answer .code ≡ 0)
+    → RefusedFrom 1 13 answer
 of-input pattern block answer e n =
     wider 1 1 7 13 answer (subst (RefusedFrom 1 7) (sym e) (input-refused pattern block (λ z. n (ap (λ (a : Answer). a .code) e ∙ z)))) (omega arith) (omega arith)
 
@@ -102,28 +105,38 @@ module _ (p : Pattern) (B : Block) (room : ℕ) where
 -- ## What the calls leave
 
 module _ (pattern block : List ℕ) where
-  pub start-by-start-length : (lent : ℕ) (answer : Answer) (result : List ℕ) → StartByStartCall pattern block lent answer result → length result ≡ lent
+  pub start-by-start-length :
+      (lent : ℕ) (answer : Answer) (result : List ℕ) → StartByStartCall pattern block lent answer result
+      → length result ≡ lent
   start-by-start-length lent answer result (StartByStartCall.refused-input n e r) = ap length r ∙ length-replicate lent 0
   start-by-start-length lent answer result (StartByStartCall.answered z numbers h r) =
       ap length r ∙ length-result lent numbers (start-pass-length (patternIn pattern) (blockIn block) (roomIn lent) _ h)
 
   -- a refusal has one of the numbers of section 8, no counts, and a result that is cleared
-  pub start-by-start-refused : (lent : ℕ) (answer : Answer) (result : List ℕ) → StartByStartCall pattern block lent answer result → ¬ (answer .code ≡ 0) → RefusedFrom 1 13 answer × (result ≡ zeros lent)
+  pub start-by-start-refused :
+      (lent : ℕ) (answer : Answer) (result : List ℕ)
+      → StartByStartCall pattern block lent answer result → ¬ (answer .code ≡ 0)
+      → RefusedFrom 1 13 answer × (result ≡ zeros lent)
   start-by-start-refused lent answer result (StartByStartCall.refused-input n e r) m = (of-input pattern block answer e m, r)
   start-by-start-refused lent answer result (StartByStartCall.answered z numbers h r) m =
       let q = start-pass-refused (patternIn pattern) (blockIn block) (roomIn lent) _ h m in (of-pass answer (q .answer), r ∙ ap (resultOf lent) (q .numbers) ∙ result-zeros lent)
 
-  pub measure-refused : (answer : Answer) → MeasureCall pattern block answer → ¬ (answer .code ≡ 0) → RefusedFrom 1 13 answer
+  pub measure-refused :
+      (answer : Answer) → MeasureCall pattern block answer → ¬ (answer .code ≡ 0) → RefusedFrom 1 13 answer
   measure-refused answer (MeasureCall.refused-input n e) m = of-input pattern block answer e m
   measure-refused answer (MeasureCall.answered z h) m = of-pass answer (counts answer h m)
     where
-      counts : (answer : Answer) → Measure (patternIn pattern) (blockIn block) answer → ¬ (answer .code ≡ 0) → RefusedFrom 9 13 answer
+      counts :
+          (answer : Answer) → Measure (patternIn pattern) (blockIn block) answer → ¬ (answer .code ≡ 0)
+          → RefusedFrom 9 13 answer
       counts a (Measure.long j t f e) n = subst (RefusedFrom 9 13) (sym e) (coded 9 j (omega arith) (omega arith))
       counts a (Measure.twice j k t f e) n = subst (RefusedFrom 9 13) (sym e) (coded 13 j (omega arith) (omega arith))
       counts a (Measure.done l k t r e) n = absurd (n (ap (λ (x : Answer). x .code) e))
 
   module _ (limit lentWork lentResult : ℕ) (answer : Answer) (work result : List ℕ) where
-    pub forward-lengths : ForwardCall pattern block limit lentWork lentResult answer work result → (length work ≡ lentWork) × (length result ≡ lentResult)
+    pub forward-lengths :
+        ForwardCall pattern block limit lentWork lentResult answer work result
+        → (length work ≡ lentWork) × (length result ≡ lentResult)
     forward-lengths (ForwardCall.refused-input n e w r) = (ap length w ∙ length-replicate lentWork 0, ap length r ∙ length-replicate lentResult 0)
     forward-lengths (ForwardCall.refused-limit z n e w r) = (ap length w ∙ length-replicate lentWork 0, ap length r ∙ length-replicate lentResult 0)
     forward-lengths (ForwardCall.answered z l numbers h w r) =
@@ -135,7 +148,9 @@ module _ (pattern block : List ℕ) where
     forward-work (ForwardCall.refused-limit z n e w r) = w
     forward-work (ForwardCall.answered z l numbers h w r) = w
 
-    pub forward-refused : ForwardCall pattern block limit lentWork lentResult answer work result → ¬ (answer .code ≡ 0) → RefusedFrom 1 13 answer × (result ≡ zeros lentResult)
+    pub forward-refused :
+        ForwardCall pattern block limit lentWork lentResult answer work result → ¬ (answer .code ≡ 0)
+        → RefusedFrom 1 13 answer × (result ≡ zeros lentResult)
     forward-refused (ForwardCall.refused-input n e w r) m = (of-input pattern block answer e m, r)
     forward-refused (ForwardCall.refused-limit z n e w r) m = (subst (RefusedFrom 1 13) (sym e) (record { from = omega arith; upTo = omega arith; used = refl; readings = refl; peak = refl }), r)
     forward-refused (ForwardCall.answered z l numbers h w r) m =

@@ -1,4 +1,5 @@
--- The number of live readings: it is there, it is one number, and it is the length of the computed list. Assumes nothing.
+-- The number of live readings: it is there, it is one number, and it is the length of the computed list.
+-- Assumes nothing.
 use mathlib.Core.Path.{_≡_, refl, sym, ap, subst, _∙_}
 use mathlib.Core.List.{List, [], _∷_, List·Memᴰ, List·Memᴰ·head, List·Memᴰ·tail}
 use Prim.Native.Nat.{ℕ, suc, _≤_}
@@ -26,14 +27,16 @@ unfolding without
 length-without (List·Memᴰ·head e) = refl
 length-without (List·Memᴰ·tail i) = ap suc (length-without i)
 
-mem-without : {r s : Reading} {m : List Reading} (i : List·Memᴰ r m) → List·Memᴰ s m → ¬ (s ≡ r) → List·Memᴰ s (without i)
+mem-without :
+    {r s : Reading} {m : List Reading} (i : List·Memᴰ r m) → List·Memᴰ s m → ¬ (s ≡ r) → List·Memᴰ s (without i)
 unfolding without
 mem-without (List·Memᴰ·head e) (List·Memᴰ·head d) n = absurd (n (d ∙ sym e))
 mem-without (List·Memᴰ·head e) (List·Memᴰ·tail j) n = j
 mem-without (List·Memᴰ·tail i) (List·Memᴰ·head d) n = List·Memᴰ·head d
 mem-without (List·Memᴰ·tail i) (List·Memᴰ·tail j) n = List·Memᴰ·tail (mem-without i j n)
 
-pub no-longer : (l m : List Reading) → Distinct l → ((r : Reading) → List·Memᴰ r l → List·Memᴰ r m) → length l ≤ length m
+pub no-longer :
+    (l m : List Reading) → Distinct l → ((r : Reading) → List·Memᴰ r l → List·Memᴰ r m) → length l ≤ length m
 no-longer [] m d h = omega arith
 no-longer (r ∷ l) m d h =
     let i = h r (List·Memᴰ·head refl) in

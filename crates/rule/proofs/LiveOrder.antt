@@ -8,7 +8,8 @@ use native.Mathlib.Omega.{arith}
 use Rattle.patterns.specs.declared.Pattern.{Pattern}
 use Rattle.automaton.specs.Filtering.{filter, collect}
 use Rattle.automaton.specs.Automaton.{variablesOf}
-use Rattle.rule.specs.Rule.{Block, Binding, Reading, Smaller, here, there, Before, sooner, smaller, startOf, lastOf, oldestFirst, fires}
+use Rattle.rule.specs.Rule.{Block, Binding, Reading, Smaller, here, there, Before, sooner, smaller, startOf}
+use Rattle.rule.specs.Rule.{lastOf, oldestFirst, fires}
 use Rattle.rule.specs.Growth.{Partial, Live}
 use Rattle.rule.specs.Computed.{isEvent, inWindow, fired, orElse, only, extend, step, live}
 use Rattle.automaton.proofs.Membership.{mem-collect}
@@ -61,7 +62,9 @@ grown-start : (c : Binding) (t r : Reading) → Grown c t r → startOf r ≡ st
 grown-start c t r (inl e) = ap startOf e
 grown-start c t r (inr (b, e)) = ap startOf e
 
-siblings : (r : Reading) (k v w : ℕ) → v < w → Before (record { variable = v; at = k } ∷ r) (record { variable = w; at = k } ∷ r)
+siblings :
+    (r : Reading) (k v w : ℕ) → v < w
+    → Before (record { variable = v; at = k } ∷ r) (record { variable = w; at = k } ∷ r)
 siblings [] k v w h = smaller refl (here h)
 siblings (c ∷ r) k v w h = smaller refl (smaller-front (oldestFirst (c ∷ r)) (here h))
 
@@ -91,7 +94,10 @@ module _ (p : Pattern) (B : Block) where
   start-lt k r h = omega (arith, start-le r (h .reads))
 
   -- what two live readings, one before the other, become stands in the same order
-  cross : (k : ℕ) (r s x y : Reading) → Live p B r k → Live p B s k → Before r s → List·Memᴰ x (extend p B k r) → List·Memᴰ y (extend p B k s) → Before x y
+  cross :
+      (k : ℕ) (r s x y : Reading) → Live p B r k → Live p B s k → Before r s
+      → List·Memᴰ x (extend p B k r) → List·Memᴰ y (extend p B k s)
+      → Before x y
   cross k [] s x y l m h i j = absurd (l .reads)
   cross k (c ∷ t) [] x y l m h i j = absurd (m .reads)
   cross k (c ∷ t) (d ∷ u) x y l m h i j = grow-left c t x y (extend-grown k c t i) (grow-right d u (c ∷ t) y (extend-grown k d u j) h)
@@ -100,7 +106,9 @@ module _ (p : Pattern) (B : Block) where
   extend-start k [] x l i = absurd (l .reads)
   extend-start k (c ∷ t) x l i = omega (arith, start-lt k (c ∷ t) l, grown-start c t x (extend-grown k c t i))
 
-  collect-ordered : (k : ℕ) (l : List Reading) → ((r : Reading) → List·Memᴰ r l → Live p B r k) → Ordered Before l → Ordered Before (collect (extend p B k) l)
+  collect-ordered :
+      (k : ℕ) (l : List Reading) → ((r : Reading) → List·Memᴰ r l → Live p B r k) → Ordered Before l
+      → Ordered Before (collect (extend p B k) l)
   unfolding collect
   collect-ordered k [] n h = tt
   collect-ordered k (r ∷ l) n h =
@@ -114,7 +122,9 @@ module _ (p : Pattern) (B : Block) where
       ordered-only Before (isEvent B k) (collect (extend p B k) (live p B k) ++ fired p B k [])
       (ordered-append Before (collect (extend p B k) (live p B k)) (fired p B k []) (collect-ordered k (live p B k) (λ r m. live-sound p B k m) (live-ordered k)) (fired-ordered k []) older)
     where
-      older : (x y : Reading) → List·Memᴰ x (collect (extend p B k) (live p B k)) → List·Memᴰ y (fired p B k []) → Before x y
+      older :
+          (x y : Reading) → List·Memᴰ x (collect (extend p B k) (live p B k)) → List·Memᴰ y (fired p B k [])
+          → Before x y
       older x y i j =
           let c = mem-collect (extend p B k) (live p B k) i in
           let f = mem-fired p B k [] j in

@@ -5,7 +5,8 @@ use mathlib.Core.List.{List, List·Memᴰ}
 use Prim.Native.Nat.{ℕ}
 use native.Mathlib.Omega.{arith}
 use Rattle.patterns.specs.declared.Pattern.{Pattern}
-use Rattle.rule.specs.Rule.{Block, Binding, Reading, Line, Rising, Report, Smaller, here, there, Before, sooner, smaller}
+use Rattle.rule.specs.Rule.{Block, Binding, Reading, Line, Rising, Report, Smaller, here, there, Before, sooner}
+use Rattle.rule.specs.Rule.{smaller}
 use Rattle.rule.specs.Growth.{IsReport}
 use Rattle.automaton.proofs.Ordered.{ordered-unique}
 
@@ -22,7 +23,10 @@ before-asym (smaller e h) (sooner g) = omega arith
 before-asym (smaller e h) (smaller d g) = smaller-asym h g
 
 -- two rising lists with the same lines are one
-one-list : (l m : List Line) → Rising l → Rising m → ((x : Line) → List·Memᴰ x l → List·Memᴰ x m) → ((x : Line) → List·Memᴰ x m → List·Memᴰ x l) → l ≡ m
+one-list :
+    (l m : List Line) → Rising l → Rising m → ((x : Line) → List·Memᴰ x l → List·Memᴰ x m)
+    → ((x : Line) → List·Memᴰ x m → List·Memᴰ x l)
+    → l ≡ m
 one-list l m h g = ordered-unique (λ x y. Before (x .reading) (y .reading)) (λ x y a b. before-asym a b) l m h g
 
 pub one-report : (p : Pattern) (B : Block) (J : ℕ) (l m : List Line) → Report p B J l → Report p B J m → l ≡ m

@@ -1,9 +1,10 @@
--- Membership in a list that is there by a flag, and in one with an entry to stand in for it; tests that some entry passes;
--- and lists that are collected. Assumes nothing.
+-- Membership in a list that is there by a flag, and in one with an entry to stand in for it; tests that some entry
+-- passes; and lists that are collected. Assumes nothing.
 use mathlib.Core.Path.{_≡_, refl, sym, ap, ap₂, subst, _∙_}
 use mathlib.Core.Logic.{_⊎_, inl, inr}
 use mathlib.Core.Bool.{Bool, true, false, _||_, false≢true}
-use mathlib.Core.List.{List, [], _∷_, _++_, map, append-assoc, List·Memᴰ, List·Memᴰ·head, List·Memᴰ·tail, List·Memᴰ·not-nil, List·Memᴰ·eq-of-singleton}
+use mathlib.Core.List.{List, [], _∷_, _++_, map, append-assoc, List·Memᴰ, List·Memᴰ·head, List·Memᴰ·tail}
+use mathlib.Core.List.{List·Memᴰ·not-nil, List·Memᴰ·eq-of-singleton}
 use Rattle.automaton.specs.Filtering.{collect}
 use Rattle.rule.specs.Computed.{only, orElse, any}
 
@@ -48,7 +49,10 @@ module _ {A : Type 0} where
   mem-any test [] h = absurd (false≢true h)
   mem-any test (x ∷ l) h = go (test x) refl h (mem-any test l)
     where
-      go : (t : Bool) → test x ≡ t → t || any test l ≡ true → (any test l ≡ true → (a : A) × List·Memᴰ a l × (test a ≡ true)) → (a : A) × List·Memᴰ a (x ∷ l) × (test a ≡ true)
+      go :
+          (t : Bool) → test x ≡ t → t || any test l ≡ true
+          → (any test l ≡ true → (a : A) × List·Memᴰ a l × (test a ≡ true))
+          → (a : A) × List·Memᴰ a (x ∷ l) × (test a ≡ true)
       go true e q ih = (x, List·Memᴰ·head refl, e)
       go false e q ih = let r = ih q in (r .0, List·Memᴰ·tail (r .1), r .2)
 
@@ -65,7 +69,8 @@ module _ {A C : Type 0} where
   collect-same f g [] h = refl
   collect-same f g (a ∷ l) h = ap₂ _++_ (h a (List·Memᴰ·head refl)) (collect-same f g l (λ b m. h b (List·Memᴰ·tail m)))
 
-pub collect-map : {A C D : Type 0} (f : C → List D) (g : A → C) (l : List A) → collect f (map g l) ≡ collect (λ a. f (g a)) l
+pub collect-map :
+    {A C D : Type 0} (f : C → List D) (g : A → C) (l : List A) → collect f (map g l) ≡ collect (λ a. f (g a)) l
 unfolding collect
 collect-map f g [] = refl
 collect-map f g (a ∷ l) = ap (λ t. f (g a) ++ t) (collect-map f g l)

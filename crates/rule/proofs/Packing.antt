@@ -2,7 +2,9 @@
 -- numbers. Assumes nothing.
 use mathlib.Core.Path.{_≡_, refl, sym, ap, ap₂, _∙_}
 use mathlib.Core.Logic.{_⊎_, inl, inr}
-use mathlib.Core.List.{List, [], _∷_, _++_, append-assoc, head-eq-of-cons-eq, tail-eq-of-cons-eq, nil≢cons, cons≢nil, List·Memᴰ, List·Memᴰ·head, List·Memᴰ·tail, List·Memᴰ·not-nil, List·Memᴰ·eq-of-singleton, List·Memᴰ·append-cases}
+use mathlib.Core.List.{List, [], _∷_, _++_, append-assoc, head-eq-of-cons-eq, tail-eq-of-cons-eq, nil≢cons, cons≢nil}
+use mathlib.Core.List.{List·Memᴰ, List·Memᴰ·head, List·Memᴰ·tail, List·Memᴰ·not-nil, List·Memᴰ·eq-of-singleton}
+use mathlib.Core.List.{List·Memᴰ·append-cases}
 use Prim.Native.Nat.{ℕ, zero, suc, _^_, _≤_, _<_}
 use native.Mathlib.Omega.{arith}
 use lib.ListN.{length, replicate, take, drop, length-append}
@@ -66,12 +68,18 @@ bindings-back (b ∷ r) f =
     bindings-last (packBindings r) (packed (b .variable) (b .at))
     ∙ ap₂ _∷_ (binding-back b (f b (List·Memᴰ·head refl))) (bindings-back r (λ c m. f c (List·Memᴰ·tail m)))
 
-line-next : (n head : ℕ) (l : List ℕ) → ¬ (head ≡ 0) → unpackLines (suc n) (head ∷ l) ≡ record { mark = markIn head; reading = bindingsIn (take (countIn head) l) } ∷ unpackLines n (drop (countIn head) l)
+line-next :
+    (n head : ℕ) (l : List ℕ) → ¬ (head ≡ 0)
+    → unpackLines (suc n) (head ∷ l) ≡ record { mark = markIn head; reading = bindingsIn (take (countIn head) l) }
+    ∷ unpackLines n (drop (countIn head) l)
 unfolding unpackLines
 line-next n head l h = rw (ne-eqb head 0 h, unpackLines)
 
 -- one line in front of other numbers
-line-back : (n : ℕ) (x : Line) (l : List ℕ) → LineFits x → 1 ≤ x .mark → unpackLines (suc n) (packed (x .mark) (length (x .reading)) ∷ (packBindings (x .reading) ++ l)) ≡ x ∷ unpackLines n l
+line-back :
+    (n : ℕ) (x : Line) (l : List ℕ) → LineFits x → 1 ≤ x .mark
+    → unpackLines (suc n) (packed (x .mark) (length (x .reading)) ∷ (packBindings (x .reading) ++ l))
+    ≡ x ∷ unpackLines n l
 line-back n x l f g =
     let head = packed (x .mark) (length (x .reading)) in
     let mark : markIn head ≡ x .mark = omega (arith, f .mark, f .count) in
@@ -80,7 +88,9 @@ line-back n x l f g =
     line-next n head (packBindings (x .reading) ++ l) (λ e. omega arith)
     ∙ ap₂ _∷_ (λ i. record { mark = mark i; reading = reading i }) (ap (unpackLines n) (drop-at (packBindings (x .reading)) l (countIn head) count))
 
-lines-back : (n : ℕ) (l : List Line) (spare : ℕ) → length (pack l ++ replicate spare 0) ≤ n → AllFit l → Marked l → unpackLines n (pack l ++ replicate spare 0) ≡ l
+lines-back :
+    (n : ℕ) (l : List Line) (spare : ℕ) → length (pack l ++ replicate spare 0) ≤ n → AllFit l → Marked l
+    → unpackLines n (pack l ++ replicate spare 0) ≡ l
 unfolding unpackLines
 lines-back zero [] spare h f g = refl
 lines-back (suc n) [] zero h f g = refl
@@ -116,16 +126,24 @@ pack-apart (x ∷ l) (y ∷ m) f g e =
     ap₂ _∷_ (λ i. record { mark = d .0 i; reading = r i }) (pack-apart l m (λ z n. f z (List·Memᴰ·tail n)) (λ z n. g z (List·Memᴰ·tail n)) (h .1))
 
 -- however many unused numbers follow, where every line has a mark
-pub padded-apart : (l m : List Line) (spare other : ℕ) → AllFit l → Marked l → AllFit m → Marked m → pack l ++ replicate spare 0 ≡ pack m ++ replicate other 0 → l ≡ m
+pub padded-apart :
+    (l m : List Line) (spare other : ℕ) → AllFit l → Marked l → AllFit m
+    → Marked m → pack l ++ replicate spare 0 ≡ pack m ++ replicate other 0
+    → l ≡ m
 padded-apart l m spare other f a g b e = sym (unpack-pack l spare f a) ∙ ap unpack e ∙ unpack-pack m other g b
 
 -- ## Numbers of 16 bits
 
-bindings-below : (r : Reading) → ((b : Binding) → List·Memᴰ b r → BindingFits b) → (number : ℕ) → List·Memᴰ number (packBindings r) → number < 2 ^ 16
+bindings-below :
+    (r : Reading) → ((b : Binding) → List·Memᴰ b r → BindingFits b) → (number : ℕ) → List·Memᴰ number (packBindings r)
+    → number < 2 ^ 16
 bindings-below [] f number m = absurd (List·Memᴰ·not-nil m)
 bindings-below (b ∷ r) f number m = go (bindings-below r (λ c n. f c (List·Memᴰ·tail n)) number) (List·Memᴰ·append-cases (packBindings r) m)
   where
-    go : (List·Memᴰ number (packBindings r) → number < 2 ^ 16) → List·Memᴰ number (packBindings r) ⊎ List·Memᴰ number (packed (b .variable) (b .at) ∷ []) → number < 2 ^ 16
+    go :
+        (List·Memᴰ number (packBindings r) → number < 2 ^ 16)
+        → List·Memᴰ number (packBindings r) ⊎ List·Memᴰ number (packed (b .variable) (b .at) ∷ [])
+        → number < 2 ^ 16
     go ih (inl i) = ih i
     go ih (inr i) = let q = f b (List·Memᴰ·head refl) in omega (arith, List·Memᴰ·eq-of-singleton i, q .variable, q .record-number)
 
@@ -134,6 +152,9 @@ pack-below [] f number m = absurd (List·Memᴰ·not-nil m)
 pack-below (x ∷ l) f number (List·Memᴰ·head e) = let q = f x (List·Memᴰ·head refl) in omega (arith, q .mark, q .count)
 pack-below (x ∷ l) f number (List·Memᴰ·tail m) = go (pack-below l (λ y n. f y (List·Memᴰ·tail n)) number) (List·Memᴰ·append-cases (packBindings (x .reading)) m)
   where
-    go : (List·Memᴰ number (pack l) → number < 2 ^ 16) → List·Memᴰ number (packBindings (x .reading)) ⊎ List·Memᴰ number (pack l) → number < 2 ^ 16
+    go :
+        (List·Memᴰ number (pack l) → number < 2 ^ 16)
+        → List·Memᴰ number (packBindings (x .reading)) ⊎ List·Memᴰ number (pack l)
+        → number < 2 ^ 16
     go ih (inl i) = bindings-below (x .reading) (f x (List·Memᴰ·head refl) .bindings) number i
     go ih (inr i) = ih i

@@ -2,7 +2,8 @@
 use mathlib.Core.Path.{_≡_, refl, sym, ap, subst, _∙_}
 use mathlib.Core.Logic.{_⊎_, inl, inr}
 use mathlib.Core.Bool.{Bool, true, false, not}
-use mathlib.Core.List.{List, [], _∷_, _++_, List·Memᴰ, Memᴰ·cast, List·Memᴰ·not-nil, Memᴰ·append-left, Memᴰ·append-right, List·Memᴰ·append-cases}
+use mathlib.Core.List.{List, [], _∷_, _++_, List·Memᴰ, Memᴰ·cast, List·Memᴰ·not-nil, Memᴰ·append-left}
+use mathlib.Core.List.{Memᴰ·append-right, List·Memᴰ·append-cases}
 use Prim.Native.Nat.{ℕ, zero, suc, _+_, _≤_, _<_}
 use native.Mathlib.Omega.{arith}
 use native.Mathlib.Decide.{ℕ-discrete, decLe, decLt}
@@ -12,7 +13,8 @@ use borrow.Author.Tests.{ltb-true, ltb-false, leb-false, lt-leb, not-true}
 use Rattle.records.specs.declared.Record.{Record}
 use Rattle.patterns.specs.declared.Pattern.{Pattern}
 use Rattle.automaton.specs.Filtering.{filter}
-use Rattle.rule.specs.Rule.{Block, Reading, Line, Before, sooner, startOf, Event, InWindow, Closes, gap, past, end, isFull, timeAt, recordIn, TimesNeverFall, pastMark, endMark, gapMark}
+use Rattle.rule.specs.Rule.{Block, Reading, Line, Before, sooner, startOf, Event, InWindow, Closes, gap, past}
+use Rattle.rule.specs.Rule.{end, isFull, timeAt, recordIn, TimesNeverFall, pastMark, endMark, gapMark}
 use Rattle.rule.specs.Growth.{Partial, Live, Kept, IsReport}
 use Rattle.rule.specs.Computed.{isEvent, inWindow, live, line, lines, closing, closed, report}
 use Rattle.automaton.proofs.Membership.{map-mem, filter-mem, mem-filter, mem-map}
@@ -25,7 +27,9 @@ Sooner x y = Before (x .reading) (y .reading)
 
 module _ (p : Pattern) (B : Block) where
   -- every record from the start of a live reading on is an event in its window
-  pub spans : (r : Reading) (k : ℕ) → Partial p B r → Kept p B r k → (i : ℕ) → startOf r ≤ i → i < k → Event B i × InWindow p B r i
+  pub spans :
+      (r : Reading) (k : ℕ) → Partial p B r → Kept p B r k → (i : ℕ) → startOf r ≤ i → i < k
+      → Event B i × InWindow p B r i
   spans [] k h g i lo hi = absurd h
   spans (b ∷ []) k h g i lo hi = go (ℕ-discrete i (b .at))
     where
@@ -34,7 +38,9 @@ module _ (p : Pattern) (B : Block) where
       go (no n) = let q = g .passed i (omega arith) hi in (q .event, q .near)
   spans (b ∷ c ∷ r) k h g i lo hi = go (λ l. spans (c ∷ r) (b .at) (h .0) (h .1) i lo l) (decLt (b .at) i) (ℕ-discrete i (b .at))
     where
-      go : (i < b .at → Event B i × InWindow p B (c ∷ r) i) → Dec (b .at < i) → Dec (i ≡ b .at) → Event B i × InWindow p B (c ∷ r) i
+      go :
+          (i < b .at → Event B i × InWindow p B (c ∷ r) i) → Dec (b .at < i) → Dec (i ≡ b .at)
+          → Event B i × InWindow p B (c ∷ r) i
       go ih (yes l) d = let q = g .passed i l hi in (q .event, q .near)
       go ih (no l) (yes e) = subst (λ n. Event B n × InWindow p B (c ∷ r) n) (sym e) (h .2 .event, h .2 .near)
       go ih (no l) (no n) = ih (omega arith)
@@ -51,7 +57,9 @@ module _ (p : Pattern) (B : Block) where
   live-in zero r l = omega arith
   live-in (suc k) r l = omega (arith, event-in k (spans r (suc k) (l .reads) (l .kept) k (omega (arith, start-lt p B (suc k) r l)) (omega arith) .0))
 
-  mem-lines : (m : ℕ) (l : List Reading) {x : Line} → List·Memᴰ x (lines p m l) → (x .mark ≡ m) × (isFull p (x .reading) ≡ true) × List·Memᴰ (x .reading) l
+  mem-lines :
+      (m : ℕ) (l : List Reading) {x : Line} → List·Memᴰ x (lines p m l)
+      → (x .mark ≡ m) × (isFull p (x .reading) ≡ true) × List·Memᴰ (x .reading) l
   unfolding lines
   mem-lines m l {x} h =
       let q = mem-map (line m) _ h in
@@ -59,7 +67,9 @@ module _ (p : Pattern) (B : Block) where
       let e = ap (λ (y : Line). y .reading) (q .2) in
       (ap (λ (y : Line). y .mark) (q .2), ap (isFull p) e ∙ f .0, Memᴰ·cast e (f .1))
 
-  lines-mem : (x : Line) {l : List Reading} → List·Memᴰ (x .reading) l → isFull p (x .reading) ≡ true → List·Memᴰ x (lines p (x .mark) l)
+  lines-mem :
+      (x : Line) {l : List Reading} → List·Memᴰ (x .reading) l → isFull p (x .reading) ≡ true
+      → List·Memᴰ x (lines p (x .mark) l)
   unfolding lines
   lines-mem x h f = map-mem (line (x .mark)) (filter-mem (isFull p) h f)
 
@@ -81,14 +91,23 @@ module _ (p : Pattern) (B : Block) where
     pub full : isFull p (x .reading) ≡ true
     pub how : Closes p B (x .reading) k (x .mark)
 
-  pub mem-closing : (k : ℕ) (l : List Reading) → ((r : Reading) → List·Memᴰ r l → Live p B r k) → {x : Line} → List·Memᴰ x (closing p B k l) → Ends k x × List·Memᴰ (x .reading) l
+  pub mem-closing :
+      (k : ℕ) (l : List Reading) → ((r : Reading) → List·Memᴰ r l → Live p B r k)
+      → {x : Line} → List·Memᴰ x (closing p B k l)
+      → Ends k x × List·Memᴰ (x .reading) l
   unfolding closing
   mem-closing k l lv {x} m = go (isEvent B k) (ltb k (length B)) refl refl m
     where
-      ended : ltb k (length B) ≡ false → Live p B (x .reading) k → x .mark ≡ endMark → Closes p B (x .reading) k (x .mark)
+      ended :
+          ltb k (length B) ≡ false → Live p B (x .reading) k → x .mark ≡ endMark → Closes p B (x .reading) k (x .mark)
       ended t g e = end (omega (arith, ltb-false k (length B) t, live-in k (x .reading) g)) e
 
-      go : (s t : Bool) → isEvent B k ≡ s → ltb k (length B) ≡ t → List·Memᴰ x (elim s [ true ↦ lines p pastMark (filter (λ r. not (inWindow p B r k)) l) | false ↦ elim t [ true ↦ lines p gapMark l | false ↦ lines p endMark l ] ]) → Ends k x × List·Memᴰ (x .reading) l
+      go :
+          (s t : Bool) → isEvent B k ≡ s → ltb k (length B) ≡ t
+          → List·Memᴰ x (elim s [
+            | true ↦ lines p pastMark (filter (λ r. not (inWindow p B r k)) l)
+            | false ↦ elim t [ true ↦ lines p gapMark l | false ↦ lines p endMark l ]
+          ]) → Ends k x × List·Memᴰ (x .reading) l
       go true t e d h =
           let q = mem-lines pastMark _ h in
           let f = mem-filter (λ r. not (inWindow p B r k)) l (q .2) in
@@ -96,14 +115,22 @@ module _ (p : Pattern) (B : Block) where
       go false true e d h = let q = mem-lines gapMark _ h in (record { live = lv _ (q .2); full = q .1; how = gap (ltb-true k (length B) d) (event-no p B k e) (q .0) }, q .2)
       go false false e d h = let q = mem-lines endMark _ h in (record { live = lv _ (q .2); full = q .1; how = ended d (lv _ (q .2)) (q .0) }, q .2)
 
-  pub closing-mem : (k : ℕ) (l : List Reading) (x : Line) → List·Memᴰ (x .reading) l → isFull p (x .reading) ≡ true → Closes p B (x .reading) k (x .mark) → List·Memᴰ x (closing p B k l)
+  pub closing-mem :
+      (k : ℕ) (l : List Reading) (x : Line) → List·Memᴰ (x .reading) l
+      → isFull p (x .reading) ≡ true → Closes p B (x .reading) k (x .mark)
+      → List·Memᴰ x (closing p B k l)
   unfolding closing
   closing-mem k l x m fu c = go (isEvent B k) (ltb k (length B)) refl refl c
     where
       as-marked : (n : ℕ) (l : List Reading) → x .mark ≡ n → List·Memᴰ (x .reading) l → List·Memᴰ x (lines p n l)
       as-marked n l e i = subst (λ t. List·Memᴰ x (lines p t l)) e (lines-mem x i fu)
 
-      go : (s t : Bool) → isEvent B k ≡ s → ltb k (length B) ≡ t → Closes p B (x .reading) k (x .mark) → List·Memᴰ x (elim s [ true ↦ lines p pastMark (filter (λ r. not (inWindow p B r k)) l) | false ↦ elim t [ true ↦ lines p gapMark l | false ↦ lines p endMark l ] ])
+      go :
+          (s t : Bool) → isEvent B k ≡ s → ltb k (length B) ≡ t → Closes p B (x .reading) k (x .mark)
+          → List·Memᴰ x (elim s [
+            | true ↦ lines p pastMark (filter (λ r. not (inWindow p B r k)) l)
+            | false ↦ elim t [ true ↦ lines p gapMark l | false ↦ lines p endMark l ]
+          ])
       go true t e d (gap a n q) = absurd (n (event-yes p B k e))
       go true t e d (past v n q) = as-marked pastMark _ q (filter-mem (λ r. not (inWindow p B r k)) m (outside-b (x .reading) k n))
       go true t e d (end a q) = absurd (omega (arith, event-in k (event-yes p B k e)))
@@ -118,7 +145,12 @@ module _ (p : Pattern) (B : Block) where
   unfolding closing
   closing-ordered k l o = go (isEvent B k) (ltb k (length B))
     where
-      go : (s t : Bool) → Ordered Sooner (elim s [ true ↦ lines p pastMark (filter (λ r. not (inWindow p B r k)) l) | false ↦ elim t [ true ↦ lines p gapMark l | false ↦ lines p endMark l ] ])
+      go :
+          (s t : Bool)
+          → Ordered Sooner (elim s [
+            | true ↦ lines p pastMark (filter (λ r. not (inWindow p B r k)) l)
+            | false ↦ elim t [ true ↦ lines p gapMark l | false ↦ lines p endMark l ]
+          ])
       go true t = lines-ordered pastMark _ (ordered-filter Before _ l o)
       go false true = lines-ordered gapMark _ o
       go false false = lines-ordered endMark _ o
@@ -131,7 +163,10 @@ module _ (p : Pattern) (B : Block) where
   mem-closed zero m = absurd (List·Memᴰ·not-nil m)
   mem-closed (suc n) {x} m = go (λ h. mem-closed n h) (List·Memᴰ·append-cases (closed p B n) m)
     where
-      go : (List·Memᴰ x (closed p B n) → (k : ℕ) × (k < n) × Ends k x) → List·Memᴰ x (closed p B n) ⊎ List·Memᴰ x (closing p B n (live p B n)) → (k : ℕ) × (k < suc n) × Ends k x
+      go :
+          (List·Memᴰ x (closed p B n) → (k : ℕ) × (k < n) × Ends k x)
+          → List·Memᴰ x (closed p B n) ⊎ List·Memᴰ x (closing p B n (live p B n))
+          → (k : ℕ) × (k < suc n) × Ends k x
       go ih (inl h) = let q = ih h in (q .0, omega (arith, q .1), q .2)
       go ih (inr h) = (n, omega arith, mem-closing n (live p B n) (live-mem n) h .0)
 
@@ -146,7 +181,9 @@ module _ (p : Pattern) (B : Block) where
 
   module _ (mono : TimesNeverFall B) where
     -- what has closed started before what is live after
-    ends-before : (k n : ℕ) → k < n → (r s : Reading) (m : ℕ) → Live p B r k → Closes p B r k m → Live p B s n → startOf r < startOf s
+    ends-before :
+        (k n : ℕ) → k < n → (r s : Reading) (m : ℕ) → Live p B r k → Closes p B r k m → Live p B s n
+        → startOf r < startOf s
     ends-before k n lt r s m l c g = go c (decLe (startOf s) k) (decLt (startOf r) (startOf s))
       where
         at-k : startOf s ≤ k → Event B k × InWindow p B s k

@@ -19,10 +19,12 @@ use Rattle.automaton.specs.Filtering.{keep, filter}
 use Rattle.automaton.specs.Automaton.{State, opens, loops, conditions}
 use Rattle.automaton.proofs.Membership.{both, clash, all-mem, mem-map, upto-mem, upto-below}
 use Rattle.numbers.proofs.Cases.{neither}
-use Rattle.rule.specs.Rule.{Block, Binding, Reading, Line, Event, Report, recordIn, timeAt, startOf, lastOf, binds, isFull, TimesNeverFall}
+use Rattle.rule.specs.Rule.{Block, Binding, Reading, Line, Event, Report, recordIn, timeAt, startOf, lastOf}
+use Rattle.rule.specs.Rule.{binds, isFull, TimesNeverFall}
 use Rattle.rule.specs.Growth.{Partial, Live}
 use Rattle.rule.specs.Calls.{inputAnswer, patternIn, blockIn}
-use Rattle.rule.proofs.EveryReading.{below, constant-holds, pair-holds, opens-or-loops, opens-new, bound-span, duration, variable-in}
+use Rattle.rule.proofs.EveryReading.{below, constant-holds, pair-holds, opens-or-loops, opens-new, bound-span}
+use Rattle.rule.proofs.EveryReading.{duration, variable-in}
 use Rattle.rule.proofs.ReadingBounds.{bound-in, set-order-time}
 use Rattle.rule.proofs.Report.{spans}
 use Rattle.rule.proofs.Written.{written-reported}
@@ -43,15 +45,17 @@ pub record Sound (p : Pattern) (B : Block) (r : Reading) : Type 0 where
   pub oneOrMore : (v : ℕ) → v < p .n → 1 ≤ length (bindingsOf v r)
   -- all event variables are contained in the pattern,
   pub variable : (b : Binding) → List·Memᴰ b r → b .variable < p .n
-  -- and all events in the block, and distinct: what is bound before b, and so stands behind it, is of an earlier record.
+  -- and all events in the block, and distinct: what is bound before b, and so stands behind it, is of an
+  -- earlier record.
   pub event : (b : Binding) → List·Memᴰ b r → Event B (b .at)
-  pub distinct : (t : Reading) (b : Binding) (s : Reading) → r ≡ t ++ (b ∷ s) → (a : Binding) → List·Memᴰ a s → a .at < b .at
+  pub distinct :
+      (t : Reading) (b : Binding) (s : Reading) → r ≡ t ++ (b ∷ s) → (a : Binding) → List·Memᴰ a s → a .at < b .at
   -- Condition 1, a condition with a constant: it holds of each binding of its variable.
   pub constant : (k : Condition) → List·Memᴰ k (conditions p) → k .form ≡ 0
       → (a : Binding) → List·Memᴰ a r → a .variable ≡ k .variable
       → holds k (recordIn B (a .at)) (recordIn B (a .at)) ≡ true
-  -- Condition 1, a condition with two variables: it holds of each combination of their bindings; if it names one variable
-  -- twice, of each binding with itself.
+  -- Condition 1, a condition with two variables: it holds of each combination of their bindings; if it names one
+  -- variable twice, of each binding with itself.
   pub pair : (k : Condition) → List·Memᴰ k (conditions p) → ¬ (k .form ≡ 0)
       → (a b : Binding) → List·Memᴰ a r → List·Memᴰ b r → a .variable ≡ k .variable → b .variable ≡ k .variable2
       → (k .variable ≡ k .variable2 → a ≡ b)
@@ -80,7 +84,9 @@ unfolding binds filter keep
 some-bound [] v h = absurd (false≢true h)
 some-bound (b ∷ r) v h = go (eqb (b .variable) v) h (some-bound r v)
   where
-    go : (t : Bool) → t || binds r v ≡ true → (binds r v ≡ true → 1 ≤ length (bindingsOf v r)) → 1 ≤ length (keep t b (bindingsOf v r))
+    go :
+        (t : Bool) → t || binds r v ≡ true → (binds r v ≡ true → 1 ≤ length (bindingsOf v r))
+        → 1 ≤ length (keep t b (bindingsOf v r))
     go true e ih = omega arith
     go false e ih = ih e
 
@@ -90,14 +96,20 @@ module _ (p : Pattern) (B : Block) where
   loops-group S v h = both {a = isGroup p v} (both {a = S v} h .1) .0
 
   -- a variable that is no group variable is not bound again
-  not-again : (x : Binding) (r : Reading) → Partial p B (x ∷ r) → isGroup p (x .variable) ≡ false → binds r (x .variable) ≡ false
+  not-again :
+      (x : Binding) (r : Reading) → Partial p B (x ∷ r) → isGroup p (x .variable) ≡ false
+      → binds r (x .variable) ≡ false
   not-again x r h g = go (opens-or-loops p B x r h)
     where
-      go : (opens p (binds r) (x .variable) ≡ true) ⊎ (loops p (binds r) (x .variable) ≡ true) → binds r (x .variable) ≡ false
+      go :
+          (opens p (binds r) (x .variable) ≡ true) ⊎ (loops p (binds r) (x .variable) ≡ true)
+          → binds r (x .variable) ≡ false
       go (inl o) = opens-new p B (binds r) (x .variable) o
       go (inr o) = clash (loops-group (binds r) (x .variable) o) g
 
-  one-more : (x : Binding) (r : Reading) → Partial p B (x ∷ r) → (v : ℕ) → isGroup p v ≡ false → length (bindingsOf v r) ≤ 1 → length (bindingsOf v (x ∷ r)) ≤ 1
+  one-more :
+      (x : Binding) (r : Reading) → Partial p B (x ∷ r) → (v : ℕ) → isGroup p v ≡ false → length (bindingsOf v r) ≤ 1
+      → length (bindingsOf v (x ∷ r)) ≤ 1
   unfolding filter keep
   one-more x r h v g l = go (eqb (x .variable) v) refl
     where
@@ -130,8 +142,11 @@ constant-alone : (k : Condition) (a b c : Record) → k .form ≡ 0 → holds k 
 unfolding holds comparedWith
 constant-alone k a b c e = rw (eq-eqb (k .form) 0 e, comparedWith)
 
-module _ (p : Pattern) (B : Block) (mono : TimesNeverFall B) (checked : InOrder p) (r : Reading) (reads : Partial p B r) where
-  choice-holds : (chosen : ℕ → ℕ) → Choice p r chosen → (k : Condition) → List·Memᴰ k (conditions p) → holds k (recordIn B (chosen (k .variable))) (recordIn B (chosen (k .variable2))) ≡ true
+module _ (p : Pattern) (B : Block) (mono : TimesNeverFall B) (checked : InOrder p) (r : Reading)
+    (reads : Partial p B r) where
+  choice-holds :
+      (chosen : ℕ → ℕ) → Choice p r chosen → (k : Condition) → List·Memᴰ k (conditions p)
+      → holds k (recordIn B (chosen (k .variable))) (recordIn B (chosen (k .variable2))) ≡ true
   choice-holds chosen c k m =
       let q = mem-map (conditionAt p) _ m in
       let i = upto-below 0 (p .c) (q .1) in
@@ -145,7 +160,8 @@ module _ (p : Pattern) (B : Block) (mono : TimesNeverFall B) (checked : InOrder 
       b : Binding
       b = record { variable = k .variable2; at = chosen (k .variable2) }
 
-      of-form : List·Memᴰ a r → List·Memᴰ b r → Dec (k .form ≡ 0) → holds k (recordIn B (a .at)) (recordIn B (b .at)) ≡ true
+      of-form :
+          List·Memᴰ a r → List·Memᴰ b r → Dec (k .form ≡ 0) → holds k (recordIn B (a .at)) (recordIn B (b .at)) ≡ true
       of-form i j (yes e) = constant-alone k (recordIn B (a .at)) (recordIn B (b .at)) (recordIn B (a .at)) e ∙ constant-holds p B r reads k m e a i refl
       of-form i j (no n) = pair-holds p B r reads k m n a b i j refl refl (λ e. ap (λ u. record { variable = u; at = chosen u }) e)
 
@@ -173,13 +189,19 @@ module _ (p : Pattern) (B : Block) (mono : TimesNeverFall B) (checked : InOrder 
       }
 
 -- every line of a report, of what has closed at record J or before
-pub report-sound : (p : Pattern) (B : Block) → TimesNeverFall B → InOrder p → (J : ℕ) (l : List Line) → Report p B J l → (x : Line) → List·Memᴰ x l → Sound p B (x .reading)
+pub report-sound :
+    (p : Pattern) (B : Block) → TimesNeverFall B → InOrder p
+    → (J : ℕ) (l : List Line) → Report p B J l → (x : Line) → List·Memᴰ x l
+    → Sound p B (x .reading)
 report-sound p B mono checked J l report x m =
     let q = written-reported p B mono J x (report .sound x m) in
     live-sound p B mono checked (x .reading) (q .at) (q .live) (q .full)
 
 -- the same from the caller's bytes
-pub input-report-sound : (pattern block : List ℕ) → inputAnswer pattern block .code ≡ 0 → (J : ℕ) (l : List Line) → Report (patternIn pattern) (blockIn block) J l → (x : Line) → List·Memᴰ x l → Sound (patternIn pattern) (blockIn block) (x .reading)
+pub input-report-sound :
+    (pattern block : List ℕ) → inputAnswer pattern block .code ≡ 0 → (J : ℕ) (l : List Line)
+    → Report (patternIn pattern) (blockIn block) J l → (x : Line) → List·Memᴰ x l
+    → Sound (patternIn pattern) (blockIn block) (x .reading)
 input-report-sound pattern block accepted J l report x m =
     let q = input-in-order pattern block accepted in
     report-sound (patternIn pattern) (blockIn block) (times-never-fall block (q .ordered)) (q .checked) J l report x m

@@ -31,7 +31,8 @@ pub record CheckedInputs (p : Pattern) (B : Block) : Type 0 where
   pub few : length B ≤ mostRecords
   pub times : TimesNeverFall B
 
-pub checked-input : (pattern block : List ℕ) → InputsInOrder pattern block → CheckedInputs (patternIn pattern) (blockIn block)
+pub checked-input :
+    (pattern block : List ℕ) → InputsInOrder pattern block → CheckedInputs (patternIn pattern) (blockIn block)
 checked-input pattern block h = record { pattern = h .checked; few = few-records block (h .ordered); times = times-never-fall block (h .ordered) }
 
 -- a mark is 1, 2 or 3
@@ -40,7 +41,8 @@ mark-range p B r j m (Closes.gap a b e) = omega arith
 mark-range p B r j m (Closes.past a b e) = omega arith
 mark-range p B r j m (Closes.end a e) = omega arith
 
-module _ (p : Pattern) (B : Block) (checked : CheckedInputs p B) (short : (i : ℕ) → ¬ TooLong p B i) (J : ℕ) (l : List Line) (report : Report p B J l) where
+module _ (p : Pattern) (B : Block) (checked : CheckedInputs p B) (short : (i : ℕ) → ¬ TooLong p B i) (J : ℕ)
+    (l : List Line) (report : Report p B J l) where
   -- no reading with a binding too many: every line has room for its fields, and its mark is not 0
   line-fits : (x : Line) → List·Memᴰ x l → LineFits x × (1 ≤ x .mark)
   line-fits x m =
@@ -70,7 +72,8 @@ module _ (p : Pattern) (B : Block) (checked : CheckedInputs p B) (short : (i : �
   report-back spare = unpack-pack l spare report-fits report-marked
 
 -- two reports that differ, of any patterns and blocks, never pack to the same numbers
-pub reports-apart : (p q : Pattern) (B C : Block) → CheckedInputs p B → CheckedInputs q C → ((i : ℕ) → ¬ TooLong p B i) → ((i : ℕ) → ¬ TooLong q C i)
+pub reports-apart : (p q : Pattern) (B C : Block) → CheckedInputs p B → CheckedInputs q C → ((i : ℕ) → ¬ TooLong p B i)
+    → ((i : ℕ) → ¬ TooLong q C i)
     → (J K : ℕ) (l m : List Line) → Report p B J l → Report q C K m → (spare other : ℕ)
     → pack l ++ replicate spare 0 ≡ pack m ++ replicate other 0 → l ≡ m
 reports-apart p q B C b c n o J K l m h g spare other e =
@@ -110,7 +113,8 @@ module _ (pattern block : List ℕ) (lent : ℕ) (answer : Answer) (result : Lis
 
 -- two calls that accept and leave the same bytes have the same report, whatever their patterns and blocks
 pub results-apart : (pattern block pattern′ block′ : List ℕ) (lent : ℕ) (a b : Answer) (result : List ℕ)
-    (c : CallTold pattern block lent a result) (d : CallTold pattern′ block′ lent b result) → c .told .lines ≡ d .told .lines
+    (c : CallTold pattern block lent a result) (d : CallTold pattern′ block′ lent b result)
+    → c .told .lines ≡ d .told .lines
 results-apart pattern block pattern′ block′ lent a b result c d =
     let e = result-apart lent (c .numbers) (d .numbers) (told-length pattern block lent a result c ∙ sym (told-length pattern′ block′ lent b result d)) (sym (c .bytes) ∙ d .bytes) in
     sym (result-back pattern block lent a result c) ∙ ap unpack e ∙ result-back pattern′ block′ lent b result d

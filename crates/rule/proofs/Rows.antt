@@ -20,10 +20,12 @@ use Rattle.automaton.specs.Steps.{steps}
 use Rattle.automaton.specs.Listing.{stepRoom, stepsListed, ListingPromise}
 use Rattle.rule.specs.Rule.{Block, Reading, Line, TimesNeverFall, Report, pack}
 use Rattle.rule.specs.Promises.{Outcome, Forward, StartByStart, Measure, refusal, refusedWith, success}
-use Rattle.rule.specs.Calls.{inputAnswer, patternIn, blockIn, zeros, roomIn, resultOf, mostLive, LimitInOrder, ForwardCall, StartByStartCall, MeasureCall}
+use Rattle.rule.specs.Calls.{inputAnswer, patternIn, blockIn, zeros, roomIn, resultOf, mostLive, LimitInOrder}
+use Rattle.rule.specs.Calls.{ForwardCall, StartByStartCall, MeasureCall}
 use Rattle.rule.specs.Computed.{report, forward}
 use Rattle.rule.specs.Starts.{startAnswer, measureAnswer}
-use Rattle.rule.specs.Bench.{Row, asks, reports, lists, Says, table, agrees, table-agrees, sameList, sameReading, sameLines, sameAnswer, sameOutcome, limitInOrder}
+use Rattle.rule.specs.Bench.{Row, asks, reports, lists, Says, table, agrees, table-agrees, sameList, sameReading}
+use Rattle.rule.specs.Bench.{sameLines, sameAnswer, sameOutcome, limitInOrder}
 use Rattle.automaton.proofs.Membership.{both, all-mem}
 use Rattle.automaton.proofs.Listing.{steps-is}
 use Rattle.rule.proofs.Report.{report-is}
@@ -114,7 +116,8 @@ module _ (p : Pattern) (B : Block) (room : ℕ) (a : Outcome) where
   filled-start (StartByStart.done l n m r h e) = subst (Filled room) (sym e) (filled-success room l 0)
 
 -- zeros behind the numbers make no other bytes
-result-zeros : (lent k : ℕ) (l : List ℕ) → 2 * (length l + k) ≤ lent → resultOf lent (l ++ replicate k 0) ≡ resultOf lent l
+result-zeros :
+    (lent k : ℕ) (l : List ℕ) → 2 * (length l + k) ≤ lent → resultOf lent (l ++ replicate k 0) ≡ resultOf lent l
 result-zeros lent k l h =
     rw (length-append, length-replicate, bytes-append, bytes-zeros, append-assoc, replicate-append-replicate)
     (ap (λ n. bytesOf l ++ zeros n) (left lent k (length l) h))
@@ -123,7 +126,9 @@ result-zeros lent k l h =
     left lent k n h = omega arith
 
 -- what came is what must come
-outcome-same : (lent : ℕ) (came must : Outcome) → sameOutcome (roomIn lent) came must ≡ true → Filled (roomIn lent) came → (came .answer ≡ must .answer) × (resultOf lent (came .numbers) ≡ resultOf lent (must .numbers))
+outcome-same :
+    (lent : ℕ) (came must : Outcome) → sameOutcome (roomIn lent) came must ≡ true → Filled (roomIn lent) came
+    → (came .answer ≡ must .answer) × (resultOf lent (came .numbers) ≡ resultOf lent (must .numbers))
 unfolding sameOutcome
 outcome-same lent came must h f =
     let q = both {a = sameAnswer (came .answer) (must .answer)} h in

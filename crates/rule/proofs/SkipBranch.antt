@@ -1,5 +1,5 @@
--- The laws by which the start-by-start pass goes: where a start's readings close, skip and branch, the starts in turn, and
--- what their findings come to. Assumes nothing.
+-- The laws by which the start-by-start pass goes: where a start's readings close, skip and branch, the starts in turn,
+-- and what their findings come to. Assumes nothing.
 use mathlib.Core.Path.{_≡_, refl, sym, ap, _∙_}
 use mathlib.Core.Bool.{Bool, true, false, not, _&&_}
 use mathlib.Core.List.{List, [], _∷_, _++_, append-assoc, List·Memᴰ}
@@ -15,11 +15,14 @@ use Rattle.patterns.specs.declared.Pattern.{Pattern}
 use Rattle.automaton.specs.Filtering.{keep, filter, collect}
 use Rattle.automaton.specs.Automaton.{variablesOf}
 use Rattle.automaton.proofs.Membership.{both, clash, upto-mem, mem-filter, filter-mem, mem-collect, collect-mem}
-use Rattle.rule.specs.Rule.{Block, Reading, Line, fires, isFull, pastMark, endMark, gapMark, pack, packBindings, packed}
+use Rattle.rule.specs.Rule.{Block, Reading, Line, fires, isFull, pastMark, endMark, gapMark, pack, packBindings}
+use Rattle.rule.specs.Rule.{packed}
 use Rattle.rule.specs.Promises.{mostBindings}
 use Rattle.rule.specs.Computed.{isEvent, only}
 use Rattle.rule.specs.Starts.Found.{closed, over}
-use Rattle.rule.specs.Starts.{Found, isPast, closesAt, until, markAt, markOf, anyFires, inTurn, close, skipFound, skipUntil, branchUntil, NextFire, startFound, foundFrom, foundAll, linesOf, leastOver}
+use Rattle.rule.specs.Starts.{Found, isPast, closesAt, until, markAt, markOf, anyFires, inTurn, close, skipFound}
+use Rattle.rule.specs.Starts.{skipUntil, branchUntil, NextFire, startFound, foundFrom, foundAll, linesOf}
+use Rattle.rule.specs.Starts.{leastOver}
 use Rattle.rule.proofs.OnlyOrElse.{any-mem, mem-any}
 use Rattle.rule.proofs.LiveReadings.{fires-variable, event-yes}
 use Rattle.rule.proofs.Report.{event-in}
@@ -71,11 +74,14 @@ module _ (p : Pattern) (B : Block) (i : ℕ) where
       go false = refl
 
   -- the window is open from record i up to j
-  still-open : (j : ℕ) → ((k : ℕ) → i < k → k < j → closesAt p B i k ≡ false) → (k : ℕ) → k < j → closesAt p B i k ≡ false
+  still-open :
+      (j : ℕ) → ((k : ℕ) → i < k → k < j → closesAt p B i k ≡ false) → (k : ℕ) → k < j → closesAt p B i k ≡ false
   unfolding closesAt
   still-open j h k l = by-order i k (λ m. h k m l) (λ m. rw (le-ltb i k m))
 
-  pub until-at : (j : ℕ) → j < length B → ((k : ℕ) → i < k → k < j → closesAt p B i k ≡ false) → closesAt p B i j ≡ true → until p B i ≡ j
+  pub until-at :
+      (j : ℕ) → j < length B → ((k : ℕ) → i < k → k < j → closesAt p B i k ≡ false) → closesAt p B i j ≡ true
+      → until p B i ≡ j
   unfolding until
   until-at j l h e = first-at (closesAt p B i) (length B) j l (still-open j h) e
 
@@ -126,31 +132,40 @@ module _ (test : ℕ → Bool) (next : ℕ → List Found) where
   unfolding inTurn upto filter collect
   turn-end n v h = let z : n - v ≡ 0 = omega arith in rw z
 
-  pub turn-misses : (n v : ℕ) → v < n → test v ≡ false → inTurn test next v (n - v) ≡ inTurn test next (suc v) (n - suc v)
+  pub turn-misses :
+      (n v : ℕ) → v < n → test v ≡ false → inTurn test next v (n - v) ≡ inTurn test next (suc v) (n - suc v)
   unfolding inTurn upto filter keep
   turn-misses n v h e = rw (one-more n v h, e)
 
-  pub turn-takes : (n v : ℕ) → v < n → test v ≡ true → inTurn test next v (n - v) ≡ next v ++ inTurn test next (suc v) (n - suc v)
+  pub turn-takes :
+      (n v : ℕ) → v < n → test v ≡ true → inTurn test next v (n - v) ≡ next v ++ inTurn test next (suc v) (n - suc v)
   unfolding inTurn upto filter keep collect
   turn-takes n v h e = rw (one-more n v h, e)
 
-  turn-by : (n d v : ℕ) → v + d ≤ n → ((w : ℕ) → v ≤ w → w < v + d → test w ≡ false) → inTurn test next v (n - v) ≡ inTurn test next (v + d) (n - (v + d))
+  turn-by :
+      (n d v : ℕ) → v + d ≤ n → ((w : ℕ) → v ≤ w → w < v + d → test w ≡ false)
+      → inTurn test next v (n - v) ≡ inTurn test next (v + d) (n - (v + d))
   turn-by n zero v l h = let z : v + 0 ≡ v = omega arith in rw z
   turn-by n (suc d) v l h =
       let z : suc v + d ≡ v + suc d = omega arith in
       turn-misses n v (omega arith) (h v (omega arith) (omega arith)) ∙ turn-by n d (suc v) (omega arith) (λ w a b. h w (omega arith) (omega arith)) ∙ ap (λ (w : ℕ). inTurn test next w (n - w)) z
 
   -- the variables that do not fire are passed over
-  pub turn-to : (n v w : ℕ) → v ≤ w → w ≤ n → ((u : ℕ) → v ≤ u → u < w → test u ≡ false) → inTurn test next v (n - v) ≡ inTurn test next w (n - w)
+  pub turn-to :
+      (n v w : ℕ) → v ≤ w → w ≤ n → ((u : ℕ) → v ≤ u → u < w → test u ≡ false)
+      → inTurn test next v (n - v) ≡ inTurn test next w (n - w)
   turn-to n v w a b h =
       let z : v + (w - v) ≡ w = omega arith in
       turn-by n (w - v) v (omega arith) (λ u c d. h u c (omega arith)) ∙ ap (λ (u : ℕ). inTurn test next u (n - u)) z
 
-  pub mem-turn : (v n : ℕ) {x : Found} → List·Memᴰ x (inTurn test next v n) → (w : ℕ) × (test w ≡ true) × List·Memᴰ x (next w)
+  pub mem-turn :
+      (v n : ℕ) {x : Found} → List·Memᴰ x (inTurn test next v n) → (w : ℕ) × (test w ≡ true) × List·Memᴰ x (next w)
   unfolding inTurn
   mem-turn v n m = let c = mem-collect next (filter test (upto v n)) m in (c .0, mem-filter test (upto v n) (c .1) .0, c .2)
 
-  pub turn-mem : (v n w : ℕ) → v ≤ w → w < v + n → test w ≡ true → {x : Found} → List·Memᴰ x (next w) → List·Memᴰ x (inTurn test next v n)
+  pub turn-mem :
+      (v n w : ℕ) → v ≤ w → w < v + n → test w ≡ true → {x : Found} → List·Memᴰ x (next w)
+      → List·Memᴰ x (inTurn test next v n)
   unfolding inTurn
   turn-mem v n w a b e m = collect-mem next (filter-mem test (upto-mem v n w a b) e) m
 
@@ -168,18 +183,23 @@ module _ (p : Pattern) (mark : ℕ) (r : Reading) where
 -- ## Skip: to the next record that fires
 
 module _ (p : Pattern) (B : Block) (mark end : ℕ) (r : Reading) where
-  pub skip-passes : (j : ℕ) → j < end → anyFires p B r j ≡ false → skipUntil p B mark end j r ≡ skipUntil p B mark end (suc j) r
+  pub skip-passes :
+      (j : ℕ) → j < end → anyFires p B r j ≡ false → skipUntil p B mark end j r ≡ skipUntil p B mark end (suc j) r
   unfolding skipFound
   skip-passes j l e = rw (one-more end j l, e, skipFound)
 
-  skip-by : (d j : ℕ) → j + d ≤ end → ((i : ℕ) → j ≤ i → i < j + d → anyFires p B r i ≡ false) → skipUntil p B mark end j r ≡ skipUntil p B mark end (j + d) r
+  skip-by :
+      (d j : ℕ) → j + d ≤ end → ((i : ℕ) → j ≤ i → i < j + d → anyFires p B r i ≡ false)
+      → skipUntil p B mark end j r ≡ skipUntil p B mark end (j + d) r
   skip-by zero j l h = let z : j + 0 ≡ j = omega arith in rw z
   skip-by (suc d) j l h =
       let z : suc j + d ≡ j + suc d = omega arith in
       skip-passes j (omega arith) (h j (omega arith) (omega arith)) ∙ skip-by d (suc j) (omega arith) (λ i a b. h i (omega arith) (omega arith)) ∙ ap (λ (k : ℕ). skipUntil p B mark end k r) z
 
   -- if no step fires from j up to q, it is as well to begin at q
-  pub skip-to : (j q : ℕ) → j ≤ q → q ≤ end → ((i : ℕ) → j ≤ i → i < q → anyFires p B r i ≡ false) → skipUntil p B mark end j r ≡ skipUntil p B mark end q r
+  pub skip-to :
+      (j q : ℕ) → j ≤ q → q ≤ end → ((i : ℕ) → j ≤ i → i < q → anyFires p B r i ≡ false)
+      → skipUntil p B mark end j r ≡ skipUntil p B mark end q r
   skip-to j q a b h =
       let z : j + (q - j) ≡ q = omega arith in
       skip-by (q - j) j (omega arith) (λ i c d. h i c (omega arith)) ∙ ap (λ (k : ℕ). skipUntil p B mark end k r) z
@@ -189,11 +209,14 @@ module _ (p : Pattern) (B : Block) (mark end : ℕ) (r : Reading) where
   skip-closes j l = let z : end - j ≡ 0 = omega arith in rw (z, skipFound)
 
   -- where a step fires
-  pub skip-takes : (j : ℕ) → j < end → anyFires p B r j ≡ true → length r < mostBindings → skipUntil p B mark end j r ≡ branchUntil p B mark end j r 0
+  pub skip-takes :
+      (j : ℕ) → j < end → anyFires p B r j ≡ true → length r < mostBindings
+      → skipUntil p B mark end j r ≡ branchUntil p B mark end j r 0
   unfolding skipFound
   skip-takes j l e s = let z : p .n - 0 ≡ p .n = omega arith in rw (z, one-more end j l, e, lt-ltb (length r) mostBindings s, skipFound)
 
-  pub skip-over : (j : ℕ) → j < end → anyFires p B r j ≡ true → mostBindings ≤ length r → skipUntil p B mark end j r ≡ over j ∷ []
+  pub skip-over :
+      (j : ℕ) → j < end → anyFires p B r j ≡ true → mostBindings ≤ length r → skipUntil p B mark end j r ≡ over j ∷ []
   unfolding skipFound
   skip-over j l e s = rw (one-more end j l, e, le-ltb (length r) mostBindings s, skipFound)
 
@@ -213,7 +236,8 @@ module _ (p : Pattern) (B : Block) (mark end : ℕ) (r : Reading) where
 -- ## The starts in turn
 
 module _ (p : Pattern) (B : Block) where
-  pub start-event : (i : ℕ) → isEvent B i ≡ true → startFound p B i ≡ branchUntil p B (markOf p B i) (until p B i) i [] 0
+  pub start-event :
+      (i : ℕ) → isEvent B i ≡ true → startFound p B i ≡ branchUntil p B (markOf p B i) (until p B i) i [] 0
   unfolding startFound only
   start-event i e = rw e
 

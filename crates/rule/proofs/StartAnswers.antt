@@ -112,16 +112,23 @@ module _ (p : Pattern) (B : Block) (mono : TimesNeverFall B) where
   -- ## The ways out of a pass that keeps the least record so far, where any number that no record has stands for none
 
   module _ (none : ℕ) (beyond : length B ≤ none) where
-    pub ends-long : (room : ℕ) → leastOver none (foundAll p B) < none → startAnswer p B room ≡ refusedWith room 9 (leastOver none (foundAll p B))
+    pub ends-long :
+        (room : ℕ) → leastOver none (foundAll p B) < none
+        → startAnswer p B room ≡ refusedWith room 9 (leastOver none (foundAll p B))
     ends-long room h = let q = least-found p B mono none beyond h in answer-long room (omega (arith, q .0, q .1)) ∙ ap (refusedWith room 9) (q .0)
 
-    pub ends-full : (room : ℕ) → none ≤ leastOver none (foundAll p B) → room < length (pack told) → startAnswer p B room ≡ refusedWith room 11 0
+    pub ends-full :
+        (room : ℕ) → none ≤ leastOver none (foundAll p B) → room < length (pack told)
+        → startAnswer p B room ≡ refusedWith room 11 0
     ends-full room h g = answer-full room (least-missing p B mono none beyond h) g
 
-    pub ends-well : (room : ℕ) → none ≤ leastOver none (foundAll p B) → length (pack told) ≤ room → startAnswer p B room ≡ success room told 0
+    pub ends-well :
+        (room : ℕ) → none ≤ leastOver none (foundAll p B) → length (pack told) ≤ room
+        → startAnswer p B room ≡ success room told 0
     ends-well room h g = answer-done room (least-missing p B mono none beyond h) g
 
-    pub measure-ends-long : leastOver none (foundAll p B) < none → measureAnswer p B ≡ refused 9 (leastOver none (foundAll p B))
+    pub measure-ends-long :
+        leastOver none (foundAll p B) < none → measureAnswer p B ≡ refused 9 (leastOver none (foundAll p B))
     measure-ends-long h = let q = least-found p B mono none beyond h in measure-long (omega (arith, q .0, q .1)) ∙ ap (refused 9) (q .0)
 
     pub measure-ends-well : none ≤ leastOver none (foundAll p B) → measureAnswer p B ≡ measured told

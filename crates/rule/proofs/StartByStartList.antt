@@ -8,7 +8,8 @@ use native.Mathlib.Decide.{decLt}
 use lib.ListN.{length}
 use lib.Seq.{append-snoc}
 use Rattle.patterns.specs.declared.Pattern.{Pattern}
-use Rattle.rule.specs.Rule.{Block, Binding, Reading, Line, Event, InWindow, Closes, gap, past, end, fires, startOf, oldestFirst}
+use Rattle.rule.specs.Rule.{Block, Binding, Reading, Line, Event, InWindow, Closes, gap, past, end, fires}
+use Rattle.rule.specs.Rule.{startOf, oldestFirst}
 use Rattle.rule.specs.Growth.{Partial, Passed, Taken, Live, Reported}
 use Rattle.automaton.proofs.Membership.{clash}
 use Rattle.rule.proofs.Report.{event-in}
@@ -60,17 +61,24 @@ module _ (p : Pattern) (B : Block) where
   one-mark r k m n (end l e) (end l′ e′) = omega arith
 
   -- the next binding of a live reading is where it first fires
-  next-at : (c : Binding) (r : Reading) (k : ℕ) → Live p B (c ∷ r) k → (t : Reading) (b : Binding) → Partial p B (t ++ (b ∷ c ∷ r)) → (k < b .at → Passed p B (c ∷ r) k) × (b .at < k → ⊥) × Taken p B (c ∷ r) b
+  next-at :
+      (c : Binding) (r : Reading) (k : ℕ) → Live p B (c ∷ r) k
+      → (t : Reading) (b : Binding) → Partial p B (t ++ (b ∷ c ∷ r))
+      → (k < b .at → Passed p B (c ∷ r) k) × (b .at < k → ⊥) × Taken p B (c ∷ r) b
   next-at c r k l t b h =
       let q = partial-back t b (c ∷ r) h in
       (λ lt. q .1 .passed k (l .kept .later) lt, λ lt. clash (q .2 .fire) (l .kept .passed (b .at) (q .1 .later) lt .none (b .variable)), q .2)
 
-  when-closed : (r : Reading) (k j m : ℕ) → Live p B r k → Live p B r j → Closes p B r j m → (k < j → Passed p B r k) × (j < k → ⊥)
+  when-closed :
+      (r : Reading) (k j m : ℕ) → Live p B r k → Live p B r j → Closes p B r j m
+      → (k < j → Passed p B r k) × (j < k → ⊥)
   when-closed r k j m l g c = (λ lt. g .kept .passed k (l .kept .later) lt, λ lt. refute r j m (l .kept .passed j (g .kept .later) lt) c)
 
   -- ## Where it closes nothing goes on
 
-  pub from-close : (r : Reading) (k m : ℕ) → Live p B r k → Closes p B r k m → (x : Line) → From r x → (x .reading ≡ r) × (x .mark ≡ m)
+  pub from-close :
+      (r : Reading) (k m : ℕ) → Live p B r k → Closes p B r k m → (x : Line) → From r x
+      → (x .reading ≡ r) × (x .mark ≡ m)
   from-close [] k m l c x f = absurd (l .reads)
   from-close (a ∷ r) k m l c x f = go (oldest-in (f .more)) (f .goesOn)
     where
@@ -102,7 +110,10 @@ module _ (p : Pattern) (B : Block) where
 
   -- ## Where a step fires, every reading goes on by a step that fires
 
-  pub from-branch : (r : Reading) (k u : ℕ) → Live p B r k → Event B k → InWindow p B r k → fires p B r u k ≡ true → (x : Line) → From r x → (v : ℕ) × (fires p B r v k ≡ true) × From (record { variable = v; at = k } ∷ r) x
+  pub from-branch :
+      (r : Reading) (k u : ℕ) → Live p B r k → Event B k
+      → InWindow p B r k → fires p B r u k ≡ true → (x : Line) → From r x
+      → (v : ℕ) × (fires p B r v k ≡ true) × From (record { variable = v; at = k } ∷ r) x
   from-branch [] k u l ev near fi x f = absurd (l .reads)
   from-branch (a ∷ r) k u l ev near fi x f = go (oldest-in (f .more)) (f .goesOn)
     where
@@ -128,7 +139,9 @@ module _ (p : Pattern) (B : Block) where
           go (no h) (yes d) = clash fi (w .0 d .none u)
           go (no h) (no d) = open-k (x .mark) (subst (λ n. Closes p B (a ∷ r) n (x .mark)) (omega arith) c)
 
-      go : {t : Reading} → Oldest t → x .reading ≡ t ++ (a ∷ r) → (v : ℕ) × (fires p B (a ∷ r) v k ≡ true) × From (record { variable = v; at = k } ∷ a ∷ r) x
+      go :
+          {t : Reading} → Oldest t → x .reading ≡ t ++ (a ∷ r)
+          → (v : ℕ) × (fires p B (a ∷ r) v k ≡ true) × From (record { variable = v; at = k } ∷ a ∷ r) x
       go empty e = absurd (alone e)
       go (oldest t b) e = by (decLt (b .at) k) (decLt k (b .at))
         where
@@ -138,22 +151,32 @@ module _ (p : Pattern) (B : Block) where
           w : (k < b .at → Passed p B (a ∷ r) k) × (b .at < k → ⊥) × Taken p B (a ∷ r) b
           w = next-at a r k l t b (subst (Partial p B) e′ (g .live .reads))
 
-          by : Dec (b .at < k) → Dec (k < b .at) → (v : ℕ) × (fires p B (a ∷ r) v k ≡ true) × From (record { variable = v; at = k } ∷ a ∷ r) x
+          by :
+              Dec (b .at < k) → Dec (k < b .at)
+              → (v : ℕ) × (fires p B (a ∷ r) v k ≡ true) × From (record { variable = v; at = k } ∷ a ∷ r) x
           by (yes h) d = absurd (w .1 h)
           by (no h) (yes d) = clash fi (w .0 d .none u)
           by (no h) (no d) =
               let q : b .at ≡ k = omega arith in (
                 b .variable,
                 subst (λ n. fires p B (a ∷ r) (b .variable) n ≡ true) q (w .2 .fire),
-                record { more = t; goesOn = e′ ∙ (λ i. t ++ (record { variable = b .variable; at = q i } ∷ a ∷ r)); reported = g },
+                record {
+                  more = t;
+                  goesOn = e′ ∙ (λ i. t ++ (record { variable = b .variable; at = q i } ∷ a ∷ r));
+                  reported = g;
+                },
               )
 
   -- ## Every reported reading has a start
 
-  pub from-start : (x : Line) → Reported p B (length B) x → (b : Binding) × Event B (b .at) × (fires p B [] (b .variable) (b .at) ≡ true) × From (b ∷ []) x
+  pub from-start :
+      (x : Line) → Reported p B (length B) x
+      → (b : Binding) × Event B (b .at) × (fires p B [] (b .variable) (b .at) ≡ true) × From (b ∷ []) x
   from-start x g = go (oldest-in (x .reading)) refl
     where
-      go : {t : Reading} → Oldest t → x .reading ≡ t → (b : Binding) × Event B (b .at) × (fires p B [] (b .variable) (b .at) ≡ true) × From (b ∷ []) x
+      go :
+          {t : Reading} → Oldest t → x .reading ≡ t
+          → (b : Binding) × Event B (b .at) × (fires p B [] (b .variable) (b .at) ≡ true) × From (b ∷ []) x
       go empty e = absurd (subst (Partial p B) e (g .live .reads))
       go (oldest t b) e =
           let q = partial-back t b [] (subst (Partial p B) e (g .live .reads)) in

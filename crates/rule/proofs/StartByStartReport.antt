@@ -2,7 +2,8 @@
 use mathlib.Core.Path.{_≡_, refl, sym, ap, subst, subst₂, _∙_}
 use mathlib.Core.Logic.{_⊎_, inl, inr}
 use mathlib.Core.Bool.{true, false}
-use mathlib.Core.List.{List, [], _∷_, _++_, List·Memᴰ, List·Memᴰ·head, List·Memᴰ·tail, List·Memᴰ·not-nil, List·Memᴰ·eq-of-singleton, Memᴰ·append-left, Memᴰ·append-right, List·Memᴰ·append-cases}
+use mathlib.Core.List.{List, [], _∷_, _++_, List·Memᴰ, List·Memᴰ·head, List·Memᴰ·tail, List·Memᴰ·not-nil}
+use mathlib.Core.List.{List·Memᴰ·eq-of-singleton, Memᴰ·append-left, Memᴰ·append-right, List·Memᴰ·append-cases}
 use Prim.Native.Nat.{ℕ, zero, suc, _+_, _≤_}
 use native.Mathlib.Omega.{arith}
 use native.Mathlib.Decide.{ℕ-discrete, decLe}
@@ -10,26 +11,37 @@ use lib.ListN.{length}
 use borrow.Author.Tests.{leb-true}
 use Rattle.patterns.specs.declared.Pattern.{Pattern}
 use Rattle.automaton.specs.Filtering.{collect}
-use Rattle.rule.specs.Rule.{Block, Binding, Reading, Line, Event, InWindow, Closes, gap, past, end, fires, startOf, timeAt, Smaller, Before, sooner, smaller, TimesNeverFall}
+use Rattle.rule.specs.Rule.{Block, Binding, Reading, Line, Event, InWindow, Closes, gap, past, end, fires}
+use Rattle.rule.specs.Rule.{startOf, timeAt, Smaller, Before, sooner, smaller, TimesNeverFall}
 use Rattle.rule.specs.Growth.{Live, Reported, IsReport}
-use Rattle.rule.specs.Computed.{isEvent, inWindow, only, fired, extend, closing, grow, begin, startByStart, report}
+use Rattle.rule.specs.Computed.{isEvent, inWindow, only, fired, extend, closing, grow, begin, startByStart}
+use Rattle.rule.specs.Computed.{report}
 use Rattle.automaton.proofs.Membership.{decide, mem-collect, collect-mem}
 use Rattle.automaton.proofs.Ordered.{Ordered, ordered-append}
 use Rattle.rule.proofs.OnlyOrElse.{mem-only, only-mem, mem-or-else, or-else-mem, or-else-self}
-use Rattle.rule.proofs.LiveReadings.{event-yes, event-no, yes-event, mem-fired, fired-mem, started, extended, in-extend}
+use Rattle.rule.proofs.LiveReadings.{event-yes, event-no, yes-event, mem-fired, fired-mem, started, extended}
+use Rattle.rule.proofs.LiveReadings.{in-extend}
 use Rattle.rule.proofs.LiveOrder.{ordered-only, fired-ordered, extend-ordered, smaller-left, smaller-right}
-use Rattle.rule.proofs.Report.{Sooner, Ends, mem-closing, closing-mem, closing-ordered, live-in, event-in, report-is}
-use Rattle.rule.proofs.StartByStartList.{From, from-close, from-branch, from-start, from-more, oldest-first-append, start-append}
+use Rattle.rule.proofs.Report.{Sooner, Ends, mem-closing, closing-mem, closing-ordered, live-in, event-in}
+use Rattle.rule.proofs.Report.{report-is}
+use Rattle.rule.proofs.StartByStartList.{From, from-close, from-branch, from-start, from-more}
+use Rattle.rule.proofs.StartByStartList.{oldest-first-append, start-append}
 use Rattle.rule.proofs.OneReport.{one-is-report}
 
 -- what goes on from two readings stands in their order
-before-more : (t u : Reading) (a b : Binding) (r s : Reading) → Before (a ∷ r) (b ∷ s) → Before (t ++ (a ∷ r)) (u ++ (b ∷ s))
+before-more :
+    (t u : Reading) (a b : Binding) (r s : Reading) → Before (a ∷ r) (b ∷ s) → Before (t ++ (a ∷ r)) (u ++ (b ∷ s))
 before-more t u a b r s (sooner h) = sooner (omega (arith, start-append t a r, start-append u b s))
 before-more t u a b r s (smaller e h) =
     smaller (start-append t a r ∙ e ∙ sym (start-append u b s))
     (subst₂ Smaller (sym (oldest-first-append t (a ∷ r))) (sym (oldest-first-append u (b ∷ s))) (smaller-left _ (smaller-right _ h)))
 
-ordered-collect : {A C : Type 0} (R : A → A → Type 0) (S : C → C → Type 0) (f : A → List C) (l : List A) → ((a : A) → List·Memᴰ a l → Ordered S (f a)) → ((a b : A) (x y : C) → List·Memᴰ a l → List·Memᴰ b l → R a b → List·Memᴰ x (f a) → List·Memᴰ y (f b) → S x y) → Ordered R l → Ordered S (collect f l)
+ordered-collect :
+    {A C : Type 0} (R : A → A → Type 0) (S : C → C → Type 0) (f : A → List C) (l : List A)
+    → ((a : A) → List·Memᴰ a l → Ordered S (f a))
+    → ((a b : A) (x y : C) → List·Memᴰ a l → List·Memᴰ b l → R a b → List·Memᴰ x (f a) → List·Memᴰ y (f b) → S x y)
+    → Ordered R l
+    → Ordered S (collect f l)
 unfolding collect
 ordered-collect R S f [] each cross o = tt
 ordered-collect R S f (a ∷ l) each cross o =
@@ -55,7 +67,11 @@ module _ (p : Pattern) (B : Block) where
   mem-grow zero k r l x m = absurd (List·Memᴰ·not-nil m)
   mem-grow (suc n) k r l x m = go (λ s g i. mem-grow n (suc k) s g x i) (List·Memᴰ·append-cases (closing p B k (r ∷ [])) m)
     where
-      go : ((s : Reading) → Live p B s (suc k) → List·Memᴰ x (grow p B n (suc k) s) → From p B s x) → List·Memᴰ x (closing p B k (r ∷ [])) ⊎ List·Memᴰ x (collect (grow p B n (suc k)) (only (isEvent B k) (extend p B k r))) → From p B r x
+      go :
+          ((s : Reading) → Live p B s (suc k) → List·Memᴰ x (grow p B n (suc k) s) → From p B s x)
+          → List·Memᴰ x (closing p B k (r ∷ []))
+          ⊎ List·Memᴰ x (collect (grow p B n (suc k)) (only (isEvent B k) (extend p B k r)))
+          → From p B r x
       go ih (inl h) =
           let q = mem-closing p B k (r ∷ []) (λ s i. subst (λ t. Live p B t k) (sym (List·Memᴰ·eq-of-singleton i)) l) h in
           from-self r x (record { at = k; by = live-in p B k r l; live = q .0 .live; closes = q .0 .how; full = q .0 .full }) (List·Memᴰ·eq-of-singleton (q .1))
@@ -66,21 +82,30 @@ module _ (p : Pattern) (B : Block) where
 
   -- ## Complete
 
-  grow-mem : (n k : ℕ) → k + n ≡ suc (length B) → (r : Reading) → Live p B r k → (x : Line) → From p B r x → List·Memᴰ x (grow p B n k r)
+  grow-mem :
+      (n k : ℕ) → k + n ≡ suc (length B) → (r : Reading) → Live p B r k → (x : Line) → From p B r x
+      → List·Memᴰ x (grow p B n k r)
   unfolding grow
   grow-mem zero k e r l x f = absurd (omega (arith, live-in p B k r l))
   grow-mem (suc n) k e r l x f = go (λ s g h. grow-mem n (suc k) (omega arith) s g x h) (decide (isEvent B k)) (decLe (timeAt B k) (timeAt B (startOf r) + p .duration))
     where
-      closes : (m : ℕ) → Closes p B r k m → List·Memᴰ x (closing p B k (r ∷ []) ++ collect (grow p B n (suc k)) (only (isEvent B k) (extend p B k r)))
+      closes :
+          (m : ℕ) → Closes p B r k m
+          → List·Memᴰ x (closing p B k (r ∷ []) ++ collect (grow p B n (suc k)) (only (isEvent B k) (extend p B k r)))
       closes m c =
           let q = from-close p B r k m l c x f in
           Memᴰ·append-left (collect (grow p B n (suc k)) (only (isEvent B k) (extend p B k r)))
           (closing-mem p B k (r ∷ []) x (List·Memᴰ·head (q .0)) (f .reported .full) (subst₂ (λ s t. Closes p B s k t) (sym (q .0)) (sym (q .1)) c))
 
-      on : (s : Reading) → List·Memᴰ s (extend p B k r) → isEvent B k ≡ true → List·Memᴰ x (grow p B n (suc k) s) → List·Memᴰ x (closing p B k (r ∷ []) ++ collect (grow p B n (suc k)) (only (isEvent B k) (extend p B k r)))
+      on :
+          (s : Reading) → List·Memᴰ s (extend p B k r) → isEvent B k ≡ true → List·Memᴰ x (grow p B n (suc k) s)
+          → List·Memᴰ x (closing p B k (r ∷ []) ++ collect (grow p B n (suc k)) (only (isEvent B k) (extend p B k r)))
       on s i ev h = Memᴰ·append-right (closing p B k (r ∷ [])) (collect-mem (grow p B n (suc k)) (only-mem ev i) h)
 
-      by : ((s : Reading) → Live p B s (suc k) → From p B s x → List·Memᴰ x (grow p B n (suc k) s)) → isEvent B k ≡ true → InWindow p B r k → (l : List Reading) → fired p B k r ≡ l → List·Memᴰ x (closing p B k (r ∷ []) ++ collect (grow p B n (suc k)) (only (isEvent B k) (extend p B k r)))
+      by :
+          ((s : Reading) → Live p B s (suc k) → From p B s x → List·Memᴰ x (grow p B n (suc k) s))
+          → isEvent B k ≡ true → InWindow p B r k → (l : List Reading) → fired p B k r ≡ l
+          → List·Memᴰ x (closing p B k (r ∷ []) ++ collect (grow p B n (suc k)) (only (isEvent B k) (extend p B k r)))
       by ih ev w [] q =
           let i = in-extend p B k r w (or-else-self r (fired p B k r) (λ a m. List·Memᴰ·not-nil (subst (List·Memᴰ a) q m))) in
           on r i ev (ih r (extended p B k (event-yes p B k ev) r l i) f)
@@ -90,18 +115,26 @@ module _ (p : Pattern) (B : Block) where
           let i = in-extend p B k r w (or-else-mem r (fired p B k r) (fired-mem p B k r (c .0) (c .1))) in
           on _ i ev (ih _ (extended p B k (event-yes p B k ev) r l i) (c .2))
 
-      last : ¬ Event B k → Dec (k ≡ length B) → List·Memᴰ x (closing p B k (r ∷ []) ++ collect (grow p B n (suc k)) (only (isEvent B k) (extend p B k r)))
+      last :
+          ¬ Event B k → Dec (k ≡ length B)
+          → List·Memᴰ x (closing p B k (r ∷ []) ++ collect (grow p B n (suc k)) (only (isEvent B k) (extend p B k r)))
       last ne (yes q) = closes 2 (end q refl)
       last ne (no q) = closes 3 (gap (omega arith) ne refl)
 
-      go : ((s : Reading) → Live p B s (suc k) → From p B s x → List·Memᴰ x (grow p B n (suc k) s)) → (isEvent B k ≡ true) ⊎ (isEvent B k ≡ false) → Dec (timeAt B k ≤ timeAt B (startOf r) + p .duration) → List·Memᴰ x (closing p B k (r ∷ []) ++ collect (grow p B n (suc k)) (only (isEvent B k) (extend p B k r)))
+      go :
+          ((s : Reading) → Live p B s (suc k) → From p B s x → List·Memᴰ x (grow p B n (suc k) s))
+          → (isEvent B k ≡ true) ⊎ (isEvent B k ≡ false) → Dec (timeAt B k ≤ timeAt B (startOf r) + p .duration)
+          → List·Memᴰ x (closing p B k (r ∷ []) ++ collect (grow p B n (suc k)) (only (isEvent B k) (extend p B k r)))
       go ih (inr ne) d = last (event-no p B k ne) (ℕ-discrete k (length B))
       go ih (inl ev) (no w) = closes 1 (past (event-yes p B k ev) w refl)
       go ih (inl ev) (yes w) = by ih ev w (fired p B k r) refl
 
   -- ## In order
 
-  grown-order : (n k : ℕ) (a b : Reading) (x y : Line) → Live p B a k → Live p B b k → Before a b → List·Memᴰ x (grow p B n k a) → List·Memᴰ y (grow p B n k b) → Sooner x y
+  grown-order :
+      (n k : ℕ) (a b : Reading) (x y : Line) → Live p B a k → Live p B b k
+      → Before a b → List·Memᴰ x (grow p B n k a) → List·Memᴰ y (grow p B n k b)
+      → Sooner x y
   grown-order n k [] b x y l g h i j = absurd (l .reads)
   grown-order n k (c ∷ r) [] x y l g h i j = absurd (g .reads)
   grown-order n k (c ∷ r) (d ∷ s) x y l g h i j =
@@ -110,7 +143,10 @@ module _ (p : Pattern) (B : Block) where
       subst₂ Before (sym (f .goesOn)) (sym (t .goesOn)) (before-more (f .more) (t .more) c d r s h)
 
   -- where a reading closes nothing goes on
-  no-both : (k : ℕ) (r s : Reading) → (x : Line) → Ends p B k x → x .reading ≡ r → isEvent B k ≡ true → List·Memᴰ s (extend p B k r) → ⊥
+  no-both :
+      (k : ℕ) (r s : Reading) → (x : Line) → Ends p B k x → x .reading ≡ r
+      → isEvent B k ≡ true → List·Memᴰ s (extend p B k r)
+      → ⊥
   unfolding extend inWindow
   no-both k r s x q e ev i = go (q .how)
     where
@@ -143,12 +179,17 @@ module _ (p : Pattern) (B : Block) where
   new-live : (k : ℕ) (s : Reading) → List·Memᴰ s (only (isEvent B k) (fired p B k [])) → Live p B s (suc k)
   new-live k s m = let o = mem-only (isEvent B k) m in started p B k (event-yes p B k (o .0)) (o .1)
 
-  mem-begin : (n k : ℕ) (x : Line) → List·Memᴰ x (begin p B n k) → Reported p B (length B) x × (k ≤ startOf (x .reading))
+  mem-begin :
+      (n k : ℕ) (x : Line) → List·Memᴰ x (begin p B n k) → Reported p B (length B) x × (k ≤ startOf (x .reading))
   unfolding begin
   mem-begin zero k x m = absurd (List·Memᴰ·not-nil m)
   mem-begin (suc n) k x m = go (λ i. mem-begin n (suc k) x i) (List·Memᴰ·append-cases (collect (grow p B n (suc k)) (only (isEvent B k) (fired p B k []))) m)
     where
-      go : (List·Memᴰ x (begin p B n (suc k)) → Reported p B (length B) x × (suc k ≤ startOf (x .reading))) → List·Memᴰ x (collect (grow p B n (suc k)) (only (isEvent B k) (fired p B k []))) ⊎ List·Memᴰ x (begin p B n (suc k)) → Reported p B (length B) x × (k ≤ startOf (x .reading))
+      go :
+          (List·Memᴰ x (begin p B n (suc k)) → Reported p B (length B) x × (suc k ≤ startOf (x .reading)))
+          → List·Memᴰ x (collect (grow p B n (suc k)) (only (isEvent B k) (fired p B k [])))
+          ⊎ List·Memᴰ x (begin p B n (suc k))
+          → Reported p B (length B) x × (k ≤ startOf (x .reading))
       go ih (inr h) = let q = ih h in (q .0, omega (arith, q .1))
       go ih (inl h) =
           let c = mem-collect (grow p B n (suc k)) _ h in
@@ -156,18 +197,24 @@ module _ (p : Pattern) (B : Block) where
           let q = mem-fired p B k [] (mem-only (isEvent B k) (c .1) .1) in
           (f .reported, omega (arith, ap startOf (f .goesOn ∙ ap (λ s. f .more ++ s) (q .2)), start-append (f .more) (record { variable = q .0; at = k }) []))
 
-  begin-mem : (n k : ℕ) → k + n ≡ suc (length B) → (x : Line) (b : Binding) → k ≤ b .at → Event B (b .at) → fires p B [] (b .variable) (b .at) ≡ true → From p B (b ∷ []) x → List·Memᴰ x (begin p B n k)
+  begin-mem :
+      (n k : ℕ) → k + n ≡ suc (length B) → (x : Line) (b : Binding) → k ≤ b .at
+      → Event B (b .at) → fires p B [] (b .variable) (b .at) ≡ true → From p B (b ∷ []) x
+      → List·Memᴰ x (begin p B n k)
   unfolding begin
   begin-mem zero k e x b le ev fi f = absurd (omega (arith, event-in p B (b .at) ev))
   begin-mem (suc n) k e x b le ev fi f = go (λ h. begin-mem n (suc k) (omega arith) x b h ev fi f) (ℕ-discrete (b .at) k)
     where
-      here : (j : ℕ) → b .at ≡ j → j ≡ k → List·Memᴰ x (collect (grow p B n (suc k)) (only (isEvent B k) (fired p B k [])))
+      here :
+          (j : ℕ) → b .at ≡ j → j ≡ k → List·Memᴰ x (collect (grow p B n (suc k)) (only (isEvent B k) (fired p B k [])))
       here j q d =
           let r = q ∙ d in
           let i = only-mem (yes-event p B k (subst (Event B) r ev)) (fired-mem p B k [] (b .variable) (subst (λ t. fires p B [] (b .variable) t ≡ true) r fi)) in
           collect-mem (grow p B n (suc k)) i (grow-mem n (suc k) (omega arith) _ (new-live k _ i) x (subst (λ (c : Binding). From p B (c ∷ []) x) (λ t. record { variable = b .variable; at = r t }) f))
 
-      go : (suc k ≤ b .at → List·Memᴰ x (begin p B n (suc k))) → Dec (b .at ≡ k) → List·Memᴰ x (collect (grow p B n (suc k)) (only (isEvent B k) (fired p B k [])) ++ begin p B n (suc k))
+      go :
+          (suc k ≤ b .at → List·Memᴰ x (begin p B n (suc k))) → Dec (b .at ≡ k)
+          → List·Memᴰ x (collect (grow p B n (suc k)) (only (isEvent B k) (fired p B k [])) ++ begin p B n (suc k))
       go ih (yes q) = Memᴰ·append-left (begin p B n (suc k)) (here k q refl)
       go ih (no q) = Memᴰ·append-right (collect (grow p B n (suc k)) (only (isEvent B k) (fired p B k []))) (ih (omega arith))
 

@@ -8,7 +8,8 @@ use native.Mathlib.Nat.{not-suc-le-zero}
 use native.Mathlib.Omega.{arith}
 use lib.ListN.{length}
 use Rattle.patterns.specs.declared.Pattern.{Pattern}
-use Rattle.rule.specs.Rule.{Block, Binding, Reading, Event, Line, Closes, Follows, PartialReading, LiveAfter, IsReported, Report, lastOf, startOf, TimesNeverFall}
+use Rattle.rule.specs.Rule.{Block, Binding, Reading, Event, Line, Closes, Follows, PartialReading, LiveAfter}
+use Rattle.rule.specs.Rule.{IsReported, Report, lastOf, startOf, TimesNeverFall}
 use Rattle.rule.specs.Growth.{Partial, Live, Reported, IsReport}
 use Rattle.numbers.proofs.Cases.{by-order}
 use Rattle.rule.proofs.LiveOrder.{start-le}
@@ -82,7 +83,9 @@ module _ (p : Pattern) (B : Block) where
     last-event (b ∷ c ∷ r) h = h .2 .event
 
     -- what is live after record j: record j is one of the block
-    inside : (r : Reading) (j : ℕ) → Partial p B r → lastOf r ≤ j → ((i : ℕ) → startOf r < i → i ≤ j → Event B i) → j < length B
+    inside :
+        (r : Reading) (j : ℕ) → Partial p B r → lastOf r ≤ j → ((i : ℕ) → startOf r < i → i ≤ j → Event B i)
+        → j < length B
     inside r j h l g =
         by-order (startOf r) j
         (λ s. event-in p B j (g j s (omega arith)))

@@ -11,18 +11,25 @@ use Rattle.numbers.specs.Bits.{mask}
 use Rattle.numbers.specs.Numbers.{number, upto, firstFrom, first, count}
 use Rattle.records.specs.Records.{classOf, recordAt, recordsOf}
 use Rattle.records.specs.Blocks.{refused, misfit, gapBroken, broken, late, recordRefusal, bad, firstBad, blockAnswer}
-use Rattle.patterns.specs.Patterns.{mostVariables, mostConditions, header, headerBroken, setNumber, groupFlag, variableZero, leastSet, greatestSet, variableBroken, conditionOf, conditionZero, conditionWord, formBroken, conditionBroken}
-use Rattle.patterns.specs.Checked.{filled, patternUpTo, patternOf, firstBadVariable, firstBadCondition, patternAnswer, conditionAt}
+use Rattle.patterns.specs.Patterns.{mostVariables, mostConditions, header, headerBroken, setNumber, groupFlag}
+use Rattle.patterns.specs.Patterns.{variableZero, leastSet, greatestSet, variableBroken, conditionOf, conditionZero}
+use Rattle.patterns.specs.Patterns.{conditionWord, formBroken, conditionBroken}
+use Rattle.patterns.specs.Checked.{filled, patternUpTo, patternOf, firstBadVariable, firstBadCondition, patternAnswer}
+use Rattle.patterns.specs.Checked.{conditionAt}
 use Rattle.patterns.specs.Comparison.{signed, value, constantValue, orderOf, comparedWith, holds}
 use Rattle.automaton.specs.Filtering.{all, keep, filter, collect}
 use Rattle.automaton.specs.Automaton.{opens, loops, leaves, marked, carries, isState, carried, stepWord}
 use Rattle.automaton.specs.Steps.{stepsFrom, steps}
 use Rattle.automaton.specs.Listing.{stepBytes, stepRoom, stepsListed, listingBytes, allZero, ListingPromise}
-use Rattle.rule.specs.Rule.{Binding, Reading, Line, oldestFirst, Report, binds, choices, passes, inOrder, allowed, fires, isFull}
+use Rattle.rule.specs.Rule.{Binding, Reading, Line, oldestFirst, Report, binds, choices, passes, inOrder, allowed}
+use Rattle.rule.specs.Rule.{fires, isFull}
 use Rattle.rule.specs.Promises.{Outcome}
-use Rattle.rule.specs.Calls.{inputAnswer, patternIn, blockIn, zeros, roomIn, resultOf, workPerReading, mostLive, mostResultBytes, ForwardCall, StartByStartCall, MeasureCall}
-use Rattle.rule.specs.Computed.{isEvent, inWindow, only, orElse, any, fired, extend, step, live, lines, closing, closed, report, isMet, peak, scan, forward}
-use Rattle.rule.specs.Starts.{isPast, closesAt, until, markAt, anyFires, inTurn, close, skipFound, startFound, foundFrom, foundAll, linesOf, leastOver, startAnswer, measureAnswer}
+use Rattle.rule.specs.Calls.{inputAnswer, patternIn, blockIn, zeros, roomIn, resultOf, workPerReading, mostLive}
+use Rattle.rule.specs.Calls.{mostResultBytes, ForwardCall, StartByStartCall, MeasureCall}
+use Rattle.rule.specs.Computed.{isEvent, inWindow, only, orElse, any, fired, extend, step, live, lines, closing}
+use Rattle.rule.specs.Computed.{closed, report, isMet, peak, scan, forward}
+use Rattle.rule.specs.Starts.{isPast, closesAt, until, markAt, anyFires, inTurn, close, skipFound, startFound}
+use Rattle.rule.specs.Starts.{foundFrom, foundAll, linesOf, leastOver, startAnswer, measureAnswer}
 
 -- ## Patterns and blocks by their bytes
 
@@ -108,7 +115,8 @@ pub data Row : Type 0 where
   lists : (pattern : List ℕ) (lent : ℕ) → Answer → (steps : List ℕ) → Row
 
 -- both passes and measure succeed alike, but for the peak, which is 0 from all but the forward pass
-abbrev pub succeeds : (pattern block : List ℕ) (limit lentWork lentResult used readings peak : ℕ) (numbers : List ℕ) → Row
+abbrev pub succeeds :
+    (pattern block : List ℕ) (limit lentWork lentResult used readings peak : ℕ) (numbers : List ℕ) → Row
 succeeds pattern block limit lentWork lentResult used readings peak numbers =
     asks pattern block limit lentWork lentResult (gives used readings peak numbers) (gives used readings 0 numbers)
     (gives used readings 0 [] .answer)
@@ -268,5 +276,13 @@ agrees (lists pattern lent answer l) =
     && sameAnswer (stepsListed (length l)) answer))))
 
 pub table-agrees : all agrees table ≡ true
-unfolding agrees limitInOrder sameOutcome sameAnswer sameLines sameReading sameList mask number upto firstFrom first count classOf recordAt recordsOf misfit gapBroken broken late recordRefusal bad firstBad blockAnswer header headerBroken setNumber groupFlag variableZero leastSet greatestSet variableBroken conditionOf conditionZero conditionWord formBroken conditionBroken filled patternUpTo patternOf firstBadVariable firstBadCondition patternAnswer conditionAt signed value constantValue orderOf comparedWith holds all keep filter collect opens loops leaves marked carries isState carried stepWord stepsFrom steps binds choices passes inOrder allowed fires isFull inputAnswer isEvent inWindow only orElse any fired extend step live lines closing closed report isMet peak scan forward isPast closesAt until markAt anyFires inTurn close skipFound startFound foundFrom foundAll linesOf leastOver startAnswer measureAnswer
+unfolding agrees limitInOrder sameOutcome sameAnswer sameLines sameReading sameList mask number upto firstFrom first
+    count classOf recordAt recordsOf misfit gapBroken broken late recordRefusal bad firstBad blockAnswer header
+    headerBroken setNumber groupFlag variableZero leastSet greatestSet variableBroken conditionOf conditionZero
+    conditionWord formBroken conditionBroken filled patternUpTo patternOf firstBadVariable firstBadCondition
+    patternAnswer conditionAt signed value constantValue orderOf comparedWith holds all keep filter collect opens loops
+    leaves marked carries isState carried stepWord stepsFrom steps binds choices passes inOrder allowed fires isFull
+    inputAnswer isEvent inWindow only orElse any fired extend step live lines closing closed report isMet peak scan
+    forward isPast closesAt until markAt anyFires inTurn close skipFound startFound foundFrom foundAll linesOf leastOver
+    startAnswer measureAnswer
 table-agrees = refl

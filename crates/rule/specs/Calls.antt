@@ -84,7 +84,8 @@ pub record LimitInOrder (limit lent : ℕ) : Type 0 where
 
 -- Rule 7.5: from the bytes of pattern and block, the limit and the lengths of lent memory to the answer and the memory
 -- after the call
-pub data ForwardCall (pattern block : List ℕ) (limit lentWork lentResult : ℕ) (answer : Answer) (work result : List ℕ) : Type 0 where
+pub data ForwardCall (pattern block : List ℕ) (limit lentWork lentResult : ℕ) (answer : Answer)
+    (work result : List ℕ) : Type 0 where
   refused-input :
       ¬ (inputAnswer pattern block .code ≡ 0) → answer ≡ inputAnswer pattern block → work ≡ zeros lentWork
       → result ≡ zeros lentResult
@@ -96,7 +97,8 @@ pub data ForwardCall (pattern block : List ℕ) (limit lentWork lentResult : ℕ
   answered :
       inputAnswer pattern block .code ≡ 0 → LimitInOrder limit lentWork
       → (numbers : List ℕ)
-      → Forward (patternIn pattern) (blockIn block) limit (roomIn lentResult) (record { answer = answer; numbers = numbers })
+      → Forward (patternIn pattern) (blockIn block) limit (roomIn lentResult)
+      (record { answer = answer; numbers = numbers })
       → work ≡ zeros lentWork
       → result ≡ resultOf lentResult numbers
       → ForwardCall pattern block limit lentWork lentResult answer work result

@@ -1,5 +1,5 @@
--- The readings of a block as lists that can be computed: the live readings after each record, what has closed, the answer
--- of the forward pass, and the listing start by start. No promise of a public call names this file.
+-- The readings of a block as lists that can be computed: the live readings after each record, what has closed, the
+-- answer of the forward pass, and the listing start by start. No promise of a public call names this file.
 use mathlib.Core.Bool.{Bool, true, false, not, _&&_, _||_}
 use mathlib.Core.List.{List, [], _∷_, _++_, map}
 use Prim.Native.Nat.{ℕ, zero, suc, _+_, max}
@@ -9,7 +9,8 @@ use Rattle.records.specs.Records.{eventKind}
 use Rattle.patterns.specs.declared.Pattern.{Pattern}
 use Rattle.automaton.specs.Filtering.{filter, collect}
 use Rattle.automaton.specs.Automaton.{variablesOf}
-use Rattle.rule.specs.Rule.{Block, Reading, Line, recordIn, timeAt, startOf, lastOf, fires, isFull, pastMark, endMark, gapMark, pack}
+use Rattle.rule.specs.Rule.{Block, Reading, Line, recordIn, timeAt, startOf, lastOf, fires, isFull, pastMark}
+use Rattle.rule.specs.Rule.{endMark, gapMark, pack}
 use Rattle.rule.specs.Promises.{Outcome, mostBindings, refusal, success}
 
 unfoldable pub isEvent : Block → ℕ → Bool

@@ -1,5 +1,5 @@
--- The rule in the form that the list functions are proved by: a reading grows by one binding, `k` records are read. It is
--- the rule of specs/Rule where times never fall (proofs/Written). No promise of a public call names this file.
+-- The rule in the form that the list functions are proved by: a reading grows by one binding, `k` records are read. It
+-- is the rule of specs/Rule where times never fall (proofs/Written). No promise of a public call names this file.
 use mathlib.Core.Path.{_≡_}
 use mathlib.Core.Bool.{true, false}
 use mathlib.Core.List.{List, [], _∷_, List·Memᴰ}

@@ -1,4 +1,5 @@
--- What the two passes and measure promise: refusals and answers by the reading rule, over a checked pattern and its block.
+-- What the two passes and measure promise: refusals and answers by the reading rule, over a checked pattern
+-- and its block.
 use mathlib.Core.Path.{_≡_}
 use mathlib.Core.Logic.{_⊎_}
 use mathlib.Core.List.{List, [], _∷_, _++_, List·Memᴰ}
@@ -138,7 +139,13 @@ mostCounted = 4294967295
 -- Rule 7.7: the answer of a success
 abbrev pub measured : List Line → Answer
 measured l =
-    record { code = 0; place = 0; used = min (length (pack l)) mostCounted; readings = min (length l) mostCounted; peak = 0 }
+    record {
+      code = 0;
+      place = 0;
+      used = min (length (pack l)) mostCounted;
+      readings = min (length l) mostCounted;
+      peak = 0;
+    }
 
 -- Rules 7.7, 8.16
 pub data Measure (p : Pattern) (B : Block) (a : Answer) : Type 0 where

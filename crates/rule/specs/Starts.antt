@@ -38,7 +38,8 @@ until p B i = first (closesAt p B i) (length B)
 
 -- the mark of what closes at record j
 unfoldable pub markAt : Block → ℕ → ℕ
-markAt B j = elim (isEvent B j) [ true ↦ pastMark | false ↦ elim (ltb j (length B)) [ true ↦ gapMark | false ↦ endMark ] ]
+markAt B j =
+    elim (isEvent B j) [ true ↦ pastMark | false ↦ elim (ltb j (length B)) [ true ↦ gapMark | false ↦ endMark ] ]
 
 -- the mark of all readings that begin at record i
 abbrev pub markOf : Pattern → Block → ℕ → ℕ

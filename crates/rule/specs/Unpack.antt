@@ -32,7 +32,8 @@ unpackLines (suc n) [] = []
 unpackLines (suc n) (head ∷ l) =
     elim (eqb head 0) [
       | true ↦ []
-      | false ↦ record { mark = markIn head; reading = bindingsIn (take (countIn head) l) } ∷ unpackLines n (drop (countIn head) l)
+      | false ↦ record { mark = markIn head; reading = bindingsIn (take (countIn head) l) }
+          ∷ unpackLines n (drop (countIn head) l)
     ]
 
 unfoldable pub unpack : List ℕ → List Line

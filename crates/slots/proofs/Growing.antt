@@ -34,7 +34,8 @@ abbrev stored : List ℕ → ℕ → ℕ → ℕ → List ℕ
 stored slot count state word =
     set (set (set (set (set slot 1 (count + 1)) 2 (state / 256)) 3 (state % 256)) (4 + 2 * count) (word / 256)) (4 + 2 * count + 1) (word % 256)
 
-module _ (slot : List ℕ) (count state word : ℕ) (size : length slot ≡ slotBytes) (e : count ≡ countIn slot) (h : count < mostBindings) where
+module _ (slot : List ℕ) (count state word : ℕ) (size : length slot ≡ slotBytes) (e : count ≡ countIn slot)
+    (h : count < mostBindings) where
   length-stored : length (stored slot count state word) ≡ slotBytes
   length-stored = simp length-set size
 
@@ -80,7 +81,9 @@ module _ (slot : List ℕ) (count state word : ℕ) (size : length slot ≡ slot
       ∙ getD-set-other slot 1 k (count + 1) 0 (omega arith)) in
       λ i. bindingOf (w i) ∷ b i
 
-  held-stored : heldIn (stored slot count state word) ≡ record { state = state; bindings = bindingOf word ∷ bindingsIn slot (countIn slot) }
+  held-stored :
+      heldIn (stored slot count state word)
+      ≡ record { state = state; bindings = bindingOf word ∷ bindingsIn slot (countIn slot) }
   unfolding heldIn
   held-stored =
       let n : countIn (stored slot count state word) ≡ suc count = count-stored ∙ add-one count in
@@ -92,7 +95,8 @@ module _ (slot : List ℕ) (count state word : ℕ) (size : length slot ≡ slot
 
 -- the slot as it is stored, with variable v bound to record i
 pub held-grown :
-    (slot : List ℕ) (i v count state : ℕ) → length slot ≡ slotBytes → count ≡ countIn slot → count < mostBindings → i < mostRecords
+    (slot : List ℕ) (i v count state : ℕ) → length slot ≡ slotBytes → count ≡ countIn slot → count < mostBindings
+    → i < mostRecords
     → state ≡ bitOr (stateIn slot) (2 ^ v)
     → (heldIn (stored slot count state (v * 4096 + i)) ≡ grow i v (heldIn slot))
     × (length (stored slot count state (v * 4096 + i)) ≡ slotBytes)

@@ -13,7 +13,8 @@ use Rattle.slots.proofs.Results.{put-head}
 use Rattle.slots.proofs.Slots.{line-bytes}
 
 pub line-put :
-    (result slot part : List ℕ) (at mark count : ℕ) → count ≡ countIn slot → mark < 16 → length slot ≡ slotBytes → countIn slot ≤ mostBindings
+    (result slot part : List ℕ) (at mark count : ℕ) → count ≡ countIn slot → mark < 16 → length slot ≡ slotBytes
+    → countIn slot ≤ mostBindings
     → ((k : ℕ) → getD slot k 0 < 256)
     → at + 2 + 2 * countIn slot ≤ length result
     → part ≡ take (4 + 2 * count - 4) (drop 4 slot)

@@ -72,7 +72,8 @@ module _ (memory : List ℕ) (at : ℕ) (bytes : List ℕ) (h : at ≤ length me
   length-written k = length-append (take at memory ++ bytes) (drop (at + length bytes) memory) ∙ simp (length-head, length-drop) (omega arith)
 
   -- writing one line after another
-  pub written-append : (more : List ℕ) → written (written memory at bytes) (at + length bytes) more ≡ written memory at (bytes ++ more)
+  pub written-append :
+      (more : List ℕ) → written (written memory at bytes) (at + length bytes) more ≡ written memory at (bytes ++ more)
   written-append more =
       let e : at + length bytes + length more ≡ at + length (bytes ++ more) = simp length-append (omega arith) in
       ap (λ (l : List ℕ). l ++ more ++ drop (at + length bytes + length more) (written memory at bytes)) take-written-all
@@ -90,7 +91,9 @@ written-lines memory at a b h =
     ∙ ap (λ (l : List ℕ). written memory at l) (sym (bytesOf-append a b))
 
 -- a part that was lent and given back is written
-pub put-written : (at end : ℕ) (memory bytes : List ℕ) → at + length bytes ≡ end → putMid at (end - at) memory bytes ≡ written memory at bytes
+pub put-written :
+    (at end : ℕ) (memory bytes : List ℕ) → at + length bytes ≡ end
+    → putMid at (end - at) memory bytes ≡ written memory at bytes
 put-written at end memory bytes e =
     let n : end - at ≡ length bytes = omega arith in
     ap (λ (j : ℕ). take at memory ++ (bytes ++ drop j (drop at memory))) n

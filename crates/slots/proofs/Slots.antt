@@ -68,8 +68,10 @@ packed-bindings slot (suc n) below h =
 
 -- a reported reading: the head, then the slot's own bytes
 pub line-bytes :
-    (mark : ℕ) (slot : List ℕ) → mark < 16 → countIn slot ≤ mostBindings → ((k : ℕ) → getD slot k 0 < 256) → 4 + 2 * countIn slot ≤ length slot
-    → bytesOf (lineNumbers mark (heldIn slot .bindings)) ≡ (mark * 16) ∷ countIn slot ∷ take (2 * countIn slot) (drop 4 slot)
+    (mark : ℕ) (slot : List ℕ) → mark < 16 → countIn slot ≤ mostBindings → ((k : ℕ) → getD slot k 0 < 256)
+    → 4 + 2 * countIn slot ≤ length slot
+    → bytesOf (lineNumbers mark (heldIn slot .bindings))
+    ≡ (mark * 16) ∷ countIn slot ∷ take (2 * countIn slot) (drop 4 slot)
 unfolding heldIn bytesOf
 line-bytes mark slot m c below h =
     let n = length-bindingsIn slot (countIn slot) in
@@ -84,7 +86,9 @@ unfolding slotsAt
 length-slotsAt memory at zero = refl
 length-slotsAt memory at (suc n) = simp length-append (omega (arith, length-slotsAt memory at n))
 
-pub getD-slotsAt : (memory : List ℕ) (at n i : ℕ) (none : Held) → i < n → getD (slotsAt memory at n) i none ≡ heldIn (slotAt memory (at + slotBytes * i))
+pub getD-slotsAt :
+    (memory : List ℕ) (at n i : ℕ) (none : Held) → i < n
+    → getD (slotsAt memory at n) i none ≡ heldIn (slotAt memory (at + slotBytes * i))
 unfolding slotsAt
 getD-slotsAt memory at zero i none h = absurd (omega arith)
 getD-slotsAt memory at (suc n) i none h =
@@ -96,7 +100,8 @@ getD-slotsAt memory at (suc n) i none h =
     getD-at (slotsAt memory at n) last [] none i (size ∙ e) ∙ ap (λ (k : ℕ). heldIn (slotAt memory (at + slotBytes * k))) e)
 
 -- the first m slots skipped
-pub slotsAt-drop : (memory : List ℕ) (at m n : ℕ) → slotsAt memory (at + slotBytes * m) n ≡ drop m (slotsAt memory at (m + n))
+pub slotsAt-drop :
+    (memory : List ℕ) (at m n : ℕ) → slotsAt memory (at + slotBytes * m) n ≡ drop m (slotsAt memory at (m + n))
 unfolding slotsAt
 slotsAt-drop memory at m zero =
     let size = length-slotsAt memory at m in
@@ -119,7 +124,8 @@ slotsAt-same a b at (suc n) h =
 
 -- ---- a memory that has changed elsewhere only
 
-take-drop-take : (n at low : ℕ) (memory : List ℕ) → at + n ≤ low → take n (drop at (take low memory)) ≡ take n (drop at memory)
+take-drop-take :
+    (n at low : ℕ) (memory : List ℕ) → at + n ≤ low → take n (drop at (take low memory)) ≡ take n (drop at memory)
 take-drop-take n zero low memory h = take-take n low memory (omega arith)
 take-drop-take n (suc at) low [] h = ap (λ (l : List ℕ). take n (drop (suc at) l)) (take-nil low)
 take-drop-take n (suc at) zero (x ∷ memory) h = absurd (omega arith)
@@ -139,13 +145,15 @@ module _ (a b : List ℕ) where
   slotAt-after high at e h =
       ap (λ (l : List ℕ). take slotBytes l) (sym (drop-from high at a h) ∙ ap (λ (l : List ℕ). drop (at - high) l) e ∙ drop-from high at b h)
 
-  pub slotsAt-before : (low at n : ℕ) → take low a ≡ take low b → at + slotBytes * n ≤ low → slotsAt a at n ≡ slotsAt b at n
+  pub slotsAt-before :
+      (low at n : ℕ) → take low a ≡ take low b → at + slotBytes * n ≤ low → slotsAt a at n ≡ slotsAt b at n
   slotsAt-before low at n e h = slotsAt-same a b at n (λ i z. slotAt-before low (at + slotBytes * i) e (omega arith))
 
 -- ---- a memory that was written
 
 module _ (memory : List ℕ) (place : ℕ) (bytes : List ℕ) (h : place ≤ length memory) where
-  pub slotsAt-written-before : (at n : ℕ) → at + slotBytes * n ≤ place → slotsAt (written memory place bytes) at n ≡ slotsAt memory at n
+  pub slotsAt-written-before :
+      (at n : ℕ) → at + slotBytes * n ≤ place → slotsAt (written memory place bytes) at n ≡ slotsAt memory at n
   slotsAt-written-before at n k = slotsAt-before (written memory place bytes) memory place at n (take-written memory place bytes h place (omega arith)) k
 
   pub slotAt-written : length bytes ≡ slotBytes → slotAt (written memory place bytes) place ≡ bytes

@@ -100,8 +100,10 @@ pub fn empty_slot() -> [u8; SLOT_BYTES]
 
 // One binding more: variable v to record i.
 pub fn bind(slot: &mut [u8], i: usize, v: usize)
-    requires { ⌜ (length (now slot) ≡ slotBytes) × (countIn (now slot) < mostBindings) × (v < mostVariables) × (i < mostRecords) ⌝ }
-    ensures { λ r. ⌜ (heldIn (now (slot .exit)) ≡ grow i v (heldIn (now (slot .entry)))) × (length (now (slot .exit)) ≡ slotBytes) × (countIn (now (slot .exit)) ≡ countIn (now (slot .entry)) + 1) ⌝ }
+    requires { ⌜ (length (now slot) ≡ slotBytes) × (countIn (now slot) < mostBindings) × (v < mostVariables)
+        × (i < mostRecords) ⌝ }
+    ensures { λ r. ⌜ (heldIn (now (slot .exit)) ≡ grow i v (heldIn (now (slot .entry))))
+        × (length (now (slot .exit)) ≡ slotBytes) × (countIn (now (slot .exit)) ≡ countIn (now (slot .entry)) + 1) ⌝ }
 {
     let count = count_of(slot);
     let state = numbers::with_bit(numbers::number2(slot, 2) as u64, v);
@@ -117,7 +119,8 @@ pub fn bind(slot: &mut [u8], i: usize, v: usize)
 // All bytes from a place on 0.
 pub fn clear_from(bytes: &mut [u8], at: usize)
     requires { ⌜ at ≤ length (now bytes) ⌝ }
-    ensures { λ r. ⌜ now (bytes .exit) ≡ take at (now (bytes .entry)) ++ replicate (length (now (bytes .entry)) - at) 0 ⌝ }
+    ensures { λ r. ⌜ now (bytes .exit)
+        ≡ take at (now (bytes .entry)) ++ replicate (length (now (bytes .entry)) - at) 0 ⌝ }
 {
     let end = bytes.len();
     numbers::clear(&mut bytes[at..end]);
@@ -137,8 +140,10 @@ fn copy(to: &mut [u8], from: &[u8])
 
 // One reported reading, from byte `at` on: its head, then its bindings, which stand in a slot as in a result.
 pub fn put_line(result: &mut [u8], at: usize, mark: u8, slot: &[u8])
-    requires { ⌜ (mark < 16) × (length (now slot) ≡ slotBytes) × (countIn (now slot) ≤ mostBindings) × (at + 2 + 2 * countIn (now slot) ≤ length (now result)) ⌝ }
-    ensures { λ r. ⌜ now (result .exit) ≡ written (now (result .entry)) at (bytesOf (lineNumbers mark (heldIn (now (slot .entry)) .bindings))) ⌝ }
+    requires { ⌜ (mark < 16) × (length (now slot) ≡ slotBytes) × (countIn (now slot) ≤ mostBindings)
+        × (at + 2 + 2 * countIn (now slot) ≤ length (now result)) ⌝ }
+    ensures { λ r. ⌜ now (result .exit)
+        ≡ written (now (result .entry)) at (bytesOf (lineNumbers mark (heldIn (now (slot .entry)) .bindings))) ⌝ }
 {
     let count = count_of(slot);
     let start = at + 2;

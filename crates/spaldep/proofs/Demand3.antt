@@ -9,7 +9,8 @@ use borrow.Author.Tests.{eq-eqb, ne-eqb}
 use Rattle.records.specs.declared.Answer.{Answer}
 use Rattle.records.specs.Blocks.{mostRecords, refused}
 use Rattle.rule.specs.Calls.{patternIn, blockIn, LimitInOrder}
-use Rattle.rule.proofs.Demand3.{SameNumbers, TooManyFirst, forward-then-start, start-then-forward, room-refused, many-inside}
+use Rattle.rule.proofs.Demand3.{SameNumbers, TooManyFirst, forward-then-start, start-then-forward, room-refused}
+use Rattle.rule.proofs.Demand3.{many-inside}
 use Rattle.rule.proofs.Inputs.{input-in-order, times-never-fall}
 use Rattle.rule.proofs.Results.{checked-input}
 use Rattle.spaldep.specs.Packed.{capped, placeOrUsed, packedAnswer, codeIn, placeOrUsedIn, readingsIn}
@@ -43,7 +44,8 @@ pub record SameWords (word other : ℕ) (result after : List ℕ) : Type 0 where
   pub used : placeOrUsedIn word ≡ placeOrUsedIn other
   pub readings : readingsIn word ≡ readingsIn other
 
-module _ (a b : Answer) (word other : ℕ) (v : word ≡ packedAnswer a) (w : other ≡ packedAnswer b) (result after : List ℕ) where
+module _ (a b : Answer) (word other : ℕ) (v : word ≡ packedAnswer a) (w : other ≡ packedAnswer b)
+    (result after : List ℕ) where
   same-words : a .code ≡ 0 → b .code ≡ 0 → SameNumbers a b result after → SameWords word other result after
   same-words d e s =
       record {
@@ -87,7 +89,9 @@ module _ (pattern block : List ℕ) (limit lentWork lentResult word other : ℕ)
       accepted : b .code ≡ 0
       accepted = code-back b other w 0 (omega arith) z
 
-      go : ((a .code ≡ 0) × SameNumbers a b result after) ⊎ (a .code ≡ 10) → ((codeIn word ≡ 0) × SameWords word other result after) ⊎ (codeIn word ≡ 10)
+      go :
+          ((a .code ≡ 0) × SameNumbers a b result after) ⊎ (a .code ≡ 10)
+          → ((codeIn word ≡ 0) × SameWords word other result after) ⊎ (codeIn word ≡ 10)
       go (inl q) = inl (code-on a word v 0 (omega arith) (q .0), same-words a b word other v w result after (q .0) accepted (q .1))
       go (inr q) = inr (code-on a word v 10 (omega arith) q)
 
@@ -105,7 +109,8 @@ module _ (pattern block : List ℕ) (limit lentWork lentResult word : ℕ) (work
   pub host-room-refused :
       ForwardHost pattern block limit lentWork lentResult word work result
       → (j : ℕ)
-      → ((codeIn word ≡ 10) × (placeOrUsedIn word ≡ j)) ↔ (ResultInOrder lentResult × TooManyFirst pattern block limit lentWork lentResult j)
+      → ((codeIn word ≡ 10) × (placeOrUsedIn word ≡ j)) ↔
+      (ResultInOrder lentResult × TooManyFirst pattern block limit lentWork lentResult j)
   host-room-refused (ForwardHost.refused-result i n w y r) j =
       ((λ h. absurd (let e = not-eight word 10 w (h .0) in omega arith)), (λ h. absurd (n (h .0))))
   host-room-refused (ForwardHost.called e a f w) j = (only, always)
@@ -113,14 +118,18 @@ module _ (pattern block : List ℕ) (limit lentWork lentResult word : ℕ) (work
       refused-here : a .code ≡ 10 → placeOrUsedIn word ≡ capped 24 (a .place)
       refused-here z = word-place a word w (λ q. omega arith)
 
-      only : (codeIn word ≡ 10) × (placeOrUsedIn word ≡ j) → ResultInOrder lentResult × TooManyFirst pattern block limit lentWork lentResult j
+      only :
+          (codeIn word ≡ 10) × (placeOrUsedIn word ≡ j)
+          → ResultInOrder lentResult × TooManyFirst pattern block limit lentWork lentResult j
       only h =
           let z = code-back a word w 10 (omega arith) (h .0) in
           let first = room-refused pattern block limit lentWork lentResult a work result f (a .place) .0 (z, refl) in
           let same : a .place ≡ j = omega (arith, refused-here z, h .1, place-fits (a .place) first) in
           (e (first .accepted), subst (TooManyFirst pattern block limit lentWork lentResult) same first)
 
-      always : ResultInOrder lentResult × TooManyFirst pattern block limit lentWork lentResult j → (codeIn word ≡ 10) × (placeOrUsedIn word ≡ j)
+      always :
+          ResultInOrder lentResult × TooManyFirst pattern block limit lentWork lentResult j
+          → (codeIn word ≡ 10) × (placeOrUsedIn word ≡ j)
       always h =
           let q = room-refused pattern block limit lentWork lentResult a work result f j .1 (h .1) in
           (code-on a word w 10 (omega arith) (q .0), omega (arith, refused-here (q .0), q .1, place-fits j (h .1)))

@@ -21,18 +21,22 @@ use Rattle.records.proofs.Blocks.{answer-misfit}
 use Rattle.patterns.specs.declared.Checked.{Checked}
 use Rattle.patterns.specs.declared.Pattern.{Pattern}
 use Rattle.patterns.specs.Patterns.{mostSets, headerBytes, headerBroken, variableCount, conditionCount}
-use Rattle.patterns.specs.Checked.{setOf, isGroup, patternOf, firstBadVariable, firstBadCondition, patternAnswer, InOrder}
-use Rattle.patterns.proofs.Answers.{wholeLength, answer-short, answer-header, answer-length, answer-variable, answer-condition, answer-pattern}
+use Rattle.patterns.specs.Checked.{setOf, isGroup, patternOf, firstBadVariable, firstBadCondition, patternAnswer}
+use Rattle.patterns.specs.Checked.{InOrder}
+use Rattle.patterns.proofs.Answers.{wholeLength, answer-short, answer-header, answer-length, answer-variable}
+use Rattle.patterns.proofs.Answers.{answer-condition, answer-pattern}
 use Rattle.patterns.proofs.InOrder.{accepted-pattern, accepted-in-order}
 use Rattle.automaton.specs.Counts.{setSize, groupSize, stepsGiven}
 use Rattle.automaton.specs.Listing.{ListingPromise, stepsListed}
 use Rattle.automaton.proofs.Counts.{all-steps}
 use Rattle.rule.specs.Rule.{Block, Line, TimesNeverFall, pack, packBindings}
 use Rattle.rule.specs.Promises.{Outcome, LiveCount, Forward, StartByStart, success}
-use Rattle.rule.specs.Calls.{inputAnswer, patternIn, blockIn, mostLive, mostResultBytes, roomIn, StartByStartCall, ForwardCall}
+use Rattle.rule.specs.Calls.{inputAnswer, patternIn, blockIn, mostLive, mostResultBytes, roomIn, StartByStartCall}
+use Rattle.rule.specs.Calls.{ForwardCall}
 use Rattle.rule.proofs.FoundTooLong.{long-in}
 use Rattle.rule.proofs.EveryReading.{never-twice}
-use Rattle.rule.proofs.Inputs.{pattern-refusals, input-pattern, input-block, input-refused, input-in-order, times-never-fall}
+use Rattle.rule.proofs.Inputs.{pattern-refusals, input-pattern, input-block, input-refused, input-in-order}
+use Rattle.rule.proofs.Inputs.{times-never-fall}
 use Rattle.rule.proofs.Results.{checked-input}
 use Rattle.spaldep.specs.Packed.{placeOrUsed, packedAnswer, codeIn, placeOrUsedIn, readingsIn, peakIn}
 use Rattle.spaldep.proofs.Fields.{packed-code, packed-place, packed-readings, packed-peak}
@@ -146,7 +150,9 @@ readings-le : (l : List Line) → length l ≤ length (pack l)
 readings-le [] = omega arith
 readings-le (x ∷ l) = omega (arith, readings-le l, length-append (packBindings (x .reading)) (pack l))
 
-success-fits : (l : List Line) (room peak : ℕ) → length (pack l) ≤ room → room ≤ roomIn mostResultBytes → peak ≤ mostLive → Fits (success room l peak .answer)
+success-fits :
+    (l : List Line) (room peak : ℕ) → length (pack l) ≤ room → room ≤ roomIn mostResultBytes → peak ≤ mostLive
+    → Fits (success room l peak .answer)
 success-fits l room peak h m k =
     record {
       code = omega arith;
@@ -155,7 +161,8 @@ success-fits l room peak h m k =
       peak = omega arith;
     }
 
-module _ (p : Pattern) (B : Block) (few : length B ≤ mostRecords) (mono : TimesNeverFall B) (room : ℕ) (small : room ≤ roomIn mostResultBytes) where
+module _ (p : Pattern) (B : Block) (few : length B ≤ mostRecords) (mono : TimesNeverFall B) (room : ℕ)
+    (small : room ≤ roomIn mostResultBytes) where
   start-pass-fits : (o : Outcome) → StartByStart p B room o → Fits (o .answer)
   start-pass-fits o (StartByStart.long j h n e) = subst (λ (x : Outcome). Fits (x .answer)) (sym e) (refused-fits 9 j (omega arith) (omega arith) (omega (arith, long-in p B mono j h)))
   start-pass-fits o (StartByStart.twice j s h n e) = absurd (never-twice p B j h)
@@ -179,13 +186,18 @@ module _ (p : Pattern) (B : Block) (few : length B ≤ mostRecords) (mono : Time
 -- ## The calls
 
 module _ (pattern block : List ℕ) where
-  pub start-by-start-fits : (lent : ℕ) (a : Answer) (result : List ℕ) → lent ≤ mostResultBytes → StartByStartCall pattern block lent a result → Fits a
+  pub start-by-start-fits :
+      (lent : ℕ) (a : Answer) (result : List ℕ) → lent ≤ mostResultBytes → StartByStartCall pattern block lent a result
+      → Fits a
   start-by-start-fits lent a result h (StartByStartCall.refused-input n e r) = subst Fits (sym e) (input-fits pattern block n)
   start-by-start-fits lent a result h (StartByStartCall.answered z numbers s r) =
       let c = input-in-order pattern block z in
       start-pass-fits (patternIn pattern) (blockIn block) (checked-input pattern block c .few) (times-never-fall block (c .ordered)) (roomIn lent) (omega arith) (record { answer = a; numbers = numbers }) s
 
-  pub forward-fits : (limit lentWork lentResult : ℕ) (a : Answer) (work result : List ℕ) → lentResult ≤ mostResultBytes → ForwardCall pattern block limit lentWork lentResult a work result → Fits a
+  pub forward-fits :
+      (limit lentWork lentResult : ℕ) (a : Answer) (work result : List ℕ) → lentResult ≤ mostResultBytes
+      → ForwardCall pattern block limit lentWork lentResult a work result
+      → Fits a
   forward-fits limit lentWork lentResult a work result h (ForwardCall.refused-input n e w r) = subst Fits (sym e) (input-fits pattern block n)
   forward-fits limit lentWork lentResult a work result h (ForwardCall.refused-limit z n e w r) = subst Fits (sym e) (refused-fits 8 0 (omega arith) (omega arith) (omega arith))
   forward-fits limit lentWork lentResult a work result h (ForwardCall.answered z l numbers f w r) =
@@ -193,7 +205,9 @@ module _ (pattern block : List ℕ) where
       forward-pass-fits (patternIn pattern) (blockIn block) (checked-input pattern block c .few) (times-never-fall block (c .ordered)) (roomIn lentResult) (omega arith) limit (l .few) (record { answer = a; numbers = numbers }) f
 
 -- answers that fit and pack to one number have the same fields
-pub packed-apart : (a b : Answer) → Fits a → Fits b → packedAnswer a ≡ packedAnswer b → (a .code ≡ b .code) × (placeOrUsed a ≡ placeOrUsed b) × (a .readings ≡ b .readings) × (a .peak ≡ b .peak)
+pub packed-apart :
+    (a b : Answer) → Fits a → Fits b → packedAnswer a ≡ packedAnswer b
+    → (a .code ≡ b .code) × (placeOrUsed a ≡ placeOrUsed b) × (a .readings ≡ b .readings) × (a .peak ≡ b .peak)
 packed-apart a b f g e =
     let x = fits-exact a f in
     let y = fits-exact b g in
@@ -223,7 +237,8 @@ steps-le p ok set =
     let high : setSize p set - 1 ≤ 11 = omega (arith, size, ok .few) in
     mul-le-mul many (pow-mono high)
 
-pub listing-fits : (pattern : List ℕ) (lent : ℕ) (a : Answer) (after : List ℕ) → ListingPromise pattern lent a after → Fits a
+pub listing-fits :
+    (pattern : List ℕ) (lent : ℕ) (a : Answer) (after : List ℕ) → ListingPromise pattern lent a after → Fits a
 listing-fits pattern lent a after (ListingPromise.badPattern n e r) =
     subst Fits (sym e) (refused-fits (patternAnswer pattern .code) (patternAnswer pattern .place) (omega arith) (omega (arith, pattern-refusals pattern)) (pattern-place pattern))
 listing-fits pattern lent a after (ListingPromise.noRoom z l is m e r) = subst Fits (sym e) (refused-fits 12 0 (omega arith) (omega arith) (omega arith))

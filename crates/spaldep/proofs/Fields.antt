@@ -7,7 +7,8 @@ use Rattle.numbers.specs.Numbers.{field}
 use Rattle.records.specs.declared.Answer.{Answer}
 use Rattle.spaldep.specs.Packed.{capped, placeOrUsed, packedAnswer, codeIn, placeOrUsedIn, readingsIn, peakIn}
 
-module _ (code place readings peak : ℕ) (c : code < 2 ^ 8) (p : place < 2 ^ 24) (r : readings < 2 ^ 16) (k : peak < 2 ^ 16) where
+module _ (code place readings peak : ℕ) (c : code < 2 ^ 8) (p : place < 2 ^ 24) (r : readings < 2 ^ 16)
+    (k : peak < 2 ^ 16) where
   abbrev word : ℕ
   word = code * 2 ^ 56 + place * 2 ^ 32 + readings * 2 ^ 16 + peak
 

@@ -1,5 +1,5 @@
--- Each C call's promise fixes its answer and every byte of the host's memory: any two that meet it are equal. The checks
--- promise an equation, which is as much. Assumes nothing.
+-- Each C call's promise fixes its answer and every byte of the host's memory: any two that meet it are equal. The
+-- checks promise an equation, which is as much. Assumes nothing.
 use mathlib.Core.Path.{_≡_, _∙_, sym, ap}
 use mathlib.Core.List.{List}
 use Prim.Native.Nat.{ℕ}

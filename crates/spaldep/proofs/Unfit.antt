@@ -19,7 +19,10 @@ module _ (pattern block : List ℕ) where
   unfolding unfitAnswer
   unfit-result e = rw (eq-eqb (inputAnswer pattern block .code) 0 e, unfitAnswer)
 
-  pub unfit-start : (lent word : ℕ) (result : List ℕ) → ¬ ResultInOrder lent → word ≡ packedAnswer (unfitAnswer pattern block) → result ≡ zeros lent → StartByStartHost pattern block lent word result
+  pub unfit-start :
+      (lent word : ℕ) (result : List ℕ) → ¬ ResultInOrder lent
+      → word ≡ packedAnswer (unfitAnswer pattern block) → result ≡ zeros lent
+      → StartByStartHost pattern block lent word result
   unfit-start lent word result bad w z =
       by-test (eqb (inputAnswer pattern block .code) 0)
       (λ t. let e = eqb-true (inputAnswer pattern block .code) 0 t in StartByStartHost.refused-result e bad (w ∙ ap packedAnswer (unfit-result e)) z)
@@ -27,7 +30,10 @@ module _ (pattern block : List ℕ) where
       let n = eqb-false (inputAnswer pattern block .code) 0 t in
       StartByStartHost.called (λ e. absurd (n e)) (inputAnswer pattern block) (StartByStartCall.refused-input n refl z) (w ∙ ap packedAnswer (unfit-input n)))
 
-  pub unfit-forward : (limit lentWork lentResult word : ℕ) (work result : List ℕ) → ¬ ResultInOrder lentResult → word ≡ packedAnswer (unfitAnswer pattern block) → work ≡ zeros lentWork → result ≡ zeros lentResult → ForwardHost pattern block limit lentWork lentResult word work result
+  pub unfit-forward :
+      (limit lentWork lentResult word : ℕ) (work result : List ℕ) → ¬ ResultInOrder lentResult
+      → word ≡ packedAnswer (unfitAnswer pattern block) → work ≡ zeros lentWork → result ≡ zeros lentResult
+      → ForwardHost pattern block limit lentWork lentResult word work result
   unfit-forward limit lentWork lentResult word work result bad w y z =
       by-test (eqb (inputAnswer pattern block .code) 0)
       (λ t. let e = eqb-true (inputAnswer pattern block .code) 0 t in ForwardHost.refused-result e bad (w ∙ ap packedAnswer (unfit-result e)) y z)

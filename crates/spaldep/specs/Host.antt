@@ -28,7 +28,8 @@ unfitAnswer pattern block =
 -- Rule 7.8: spaldep_start_by_start, the packed answer and the result after it
 pub data StartByStartHost (pattern block : List ℕ) (lent word : ℕ) (result : List ℕ) : Type 0 where
   refused-result :
-      inputAnswer pattern block .code ≡ 0 → ¬ ResultInOrder lent → word ≡ packedAnswer (refused 8 0) → result ≡ zeros lent
+      inputAnswer pattern block .code ≡ 0 → ¬ ResultInOrder lent → word ≡ packedAnswer (refused 8 0)
+      → result ≡ zeros lent
       → StartByStartHost pattern block lent word result
   called :
       (inputAnswer pattern block .code ≡ 0 → ResultInOrder lent)

@@ -42,7 +42,8 @@ fn pack(a: Answer) -> u64
 
 #[no_mangle]
 pub extern "C" fn spaldep_check_pattern(pattern: &[u8]) -> u64
-    ensures { λ r. ⌜ r ≡ packedAnswer (refused (patternAnswer (now (pattern .entry)) .code) (patternAnswer (now (pattern .entry)) .place)) ⌝ }
+    ensures { λ r. ⌜ r ≡ packedAnswer
+        (refused (patternAnswer (now (pattern .entry)) .code) (patternAnswer (now (pattern .entry)) .place)) ⌝ }
 {
     let checked = patterns::check_pattern(pattern);
     pack(records::refusal(checked.code, checked.place))
@@ -102,7 +103,8 @@ pub extern "C" fn spaldep_forward(
     work: &mut [u8],
     result: &mut [u8],
 ) -> u64
-    ensures { λ r. ⌜ ForwardHost (now (pattern .entry)) (now (block .entry)) limit (length (now (work .entry))) (length (now (result .entry))) r (now (work .exit)) (now (result .exit)) ⌝ }
+    ensures { λ r. ⌜ ForwardHost (now (pattern .entry)) (now (block .entry)) limit (length (now (work .entry)))
+        (length (now (result .entry))) r (now (work .exit)) (now (result .exit)) ⌝ }
 {
     if is_unfit(result.len()) {
         numbers::clear(work);
@@ -114,7 +116,8 @@ pub extern "C" fn spaldep_forward(
 
 #[no_mangle]
 pub extern "C" fn spaldep_start_by_start(pattern: &[u8], block: &[u8], result: &mut [u8]) -> u64
-    ensures { λ r. ⌜ StartByStartHost (now (pattern .entry)) (now (block .entry)) (length (now (result .entry))) r (now (result .exit)) ⌝ }
+    ensures { λ r. ⌜ StartByStartHost (now (pattern .entry)) (now (block .entry)) (length (now (result .entry))) r
+        (now (result .exit)) ⌝ }
 {
     if is_unfit(result.len()) {
         numbers::clear(result);

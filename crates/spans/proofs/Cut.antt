@@ -1,5 +1,5 @@
--- Input that does not fit the program's room is not cut short: the block is too long even so, and what is written is the
--- text of the whole input. Assumes nothing.
+-- Input that does not fit the program's room is not cut short: the block is too long even so, and what is written is
+-- the text of the whole input. Assumes nothing.
 use mathlib.Core.Path.{_≡_, sym, ap, ap₂, _∙_}
 use mathlib.Core.Bool.{true}
 use mathlib.Core.List.{List, [], _∷_}
@@ -17,7 +17,8 @@ use Rattle.records.proofs.Blocks.{misfit-odd, misfit-many, answer-misfit}
 use Rattle.patterns.specs.Checked.{patternAnswer}
 use Rattle.rule.specs.Calls.{inputAnswer, mostLive, ForwardCall}
 use Rattle.rule.proofs.Inputs.{input-pattern, input-block, input-accepts}
-use Rattle.spans.specs.Program.{lengthBytes, patternLength, patternBytes, blockBytes, workBytes, resultBytes, inputRoom, Answered, Program}
+use Rattle.spans.specs.Program.{lengthBytes, patternLength, patternBytes, blockBytes, workBytes, resultBytes}
+use Rattle.spans.specs.Program.{inputRoom, Answered, Program}
 
 -- ## A block that is too long
 
@@ -93,7 +94,9 @@ module _ (input : List ℕ) (bytes : (k : ℕ) → getD input k 0 < 256) (long :
   whole-long : TooLong (blockBytes input)
   whole-long = simp length-drop (omega (arith, few))
 
-  whole-answered : (answer : Answer) (result : List ℕ) → Answered part answer result → (¬ (answer .code ≡ 0)) × Answered input answer result
+  whole-answered :
+      (answer : Answer) (result : List ℕ) → Answered part answer result
+      → (¬ (answer .code ≡ 0)) × Answered input answer result
   whole-answered answer result (Answered.short h e) = absurd (omega (arith, length-part, same-length, few))
   whole-answered answer result (Answered.called h work call) =
       let q = long-call (patternBytes part) (blockBytes part) (blockBytes input) work result answer part-long whole-long call in
@@ -112,7 +115,8 @@ module _ (input : List ℕ) (bytes : (k : ℕ) → getD input k 0 < 256) (long :
       }
 
 -- what is written of as much as the program reads is written of the whole input
-pub cut : (input text : List ℕ) → ((k : ℕ) → getD input k 0 < 256) → Program (take inputRoom input) text → Program input text
+pub cut :
+    (input text : List ℕ) → ((k : ℕ) → getD input k 0 < 256) → Program (take inputRoom input) text → Program input text
 cut input text bytes p =
     by-order inputRoom (length input)
     (λ long. whole-program input bytes long text p)

@@ -1,5 +1,5 @@
--- The parts of an input as the program takes them; the lines that it reads from the result are the report's; and what it
--- writes is determined by the input. Assumes nothing.
+-- The parts of an input as the program takes them; the lines that it reads from the result are the report's; and what
+-- it writes is determined by the input. Assumes nothing.
 use mathlib.Core.Path.{_≡_, sym, ap, subst, _∙_}
 use mathlib.Core.List.{List}
 use Prim.Native.Nat.{ℕ, _+_, _-_, _*_, _≤_, _<_}
@@ -18,23 +18,30 @@ use Rattle.rule.proofs.OneReport.{one-report}
 use Rattle.lines.specs.Text.{answerText}
 use Rattle.lines.specs.Results.{placeOf, linesIn}
 use Rattle.lines.proofs.Told.{told-lines, told-place}
-use Rattle.spans.specs.Program.{lengthBytes, patternLength, patternBytes, blockBytes, workBytes, resultBytes, Answered, Program}
+use Rattle.spans.specs.Program.{lengthBytes, patternLength, patternBytes, blockBytes, workBytes, resultBytes}
+use Rattle.spans.specs.Program.{Answered, Program}
 
 -- ## Parts of the input
 
-pub no-length : (input result : List ℕ) (answer : Answer) → length input < lengthBytes → answer ≡ refused 1 0 → Answered input answer result
+pub no-length :
+    (input result : List ℕ) (answer : Answer) → length input < lengthBytes → answer ≡ refused 1 0
+    → Answered input answer result
 no-length input result answer h e = Answered.short (omega arith) e
 
 pub no-pattern :
-    (input result : List ℕ) (answer : Answer) (n : ℕ) → n ≡ patternLength input → length input < lengthBytes + n → answer ≡ refused 1 0
+    (input result : List ℕ) (answer : Answer) (n : ℕ) → n ≡ patternLength input → length input < lengthBytes + n
+    → answer ≡ refused 1 0
     → Answered input answer result
 no-pattern input result answer n e h a = Answered.short (omega arith) a
 
 pub pass-called :
-    (input work result : List ℕ) (answer : Answer) (n lentWork lentResult : ℕ) → n ≡ patternLength input → lengthBytes + n ≤ length input
+    (input work result : List ℕ) (answer : Answer) (n lentWork lentResult : ℕ) → n ≡ patternLength input
+    → lengthBytes + n ≤ length input
     → lentWork ≡ workBytes
     → lentResult ≡ resultBytes
-    → ForwardCall (take (lengthBytes + n - lengthBytes) (drop lengthBytes input)) (take (length input - (lengthBytes + n)) (drop (lengthBytes + n) input)) mostLive lentWork lentResult answer work result
+    → ForwardCall (take (lengthBytes + n - lengthBytes) (drop lengthBytes input))
+    (take (length input - (lengthBytes + n)) (drop (lengthBytes + n) input)) mostLive lentWork lentResult answer work
+    result
     → Answered input answer result
 pass-called input work result answer n lentWork lentResult e h w r call =
     let p : lengthBytes + n - lengthBytes ≡ n = omega arith in
@@ -107,7 +114,9 @@ one-text input text other p q =
     let e = one-answer input (p .result) (q .result) (p .answer) (q .answer) (p .answered) (q .answered) in
     p .written ∙ same (ℕ-discrete (p .answer .code) 0) e ∙ ap (λ (a : Answer). answerText a (q .lines)) e ∙ sym (q .written)
   where
-    same : Dec (p .answer .code ≡ 0) → p .answer ≡ q .answer → answerText (p .answer) (p .lines) ≡ answerText (p .answer) (q .lines)
+    same :
+        Dec (p .answer .code ≡ 0) → p .answer ≡ q .answer
+        → answerText (p .answer) (p .lines) ≡ answerText (p .answer) (q .lines)
     same (yes z) e =
         ap (answerText (p .answer))
         (one-report (patternIn (patternBytes input)) (blockIn (blockBytes input)) (length (blockIn (blockBytes input))) (p .lines) (q .lines) (p .report z) (q .report (ap (λ (a : Answer). a .code) (sym e) ∙ z)))

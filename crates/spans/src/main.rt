@@ -1,5 +1,5 @@
-// The match program: the forward pass over a pattern and a block from standard input (Rule 9.1), and its report as lines
-// of text (Rule 9.2).
+// The match program: the forward pass over a pattern and a block from standard input (Rule 9.1), and its report as
+// lines of text (Rule 9.2).
 ghost use mathlib.Core.Path.{_≡_};
 ghost use Prim.Native.Nat.{_≤_};
 ghost use lib.ListN.{length, take};
@@ -14,8 +14,8 @@ const LENGTH_BYTES: usize = 2;
 // The longest pattern that two bytes can announce.
 const MOST_ANNOUNCED: usize = 65535;
 
-// The length, the longest pattern, and one byte more than a block may have: input that does not fit has too long a block
-// even so.
+// The length, the longest pattern, and one byte more than a block may have: input that does not fit has too long a
+// block even so.
 const INPUT_ROOM: usize = LENGTH_BYTES
     + MOST_ANNOUNCED
     + records::RECORD_BYTES * records::MOST_RECORDS
@@ -65,7 +65,8 @@ fn text_room() -> [u8; TEXT_ROOM]
 
 // Puts all that is written of an input at the start of text, and answers how many bytes that is.
 fn put_text(input: &[u8], work: &mut [u8], result: &mut [u8], text: &mut [u8]) -> usize
-    requires { ⌜ (length (now work) ≡ workBytes) × (length (now result) ≡ resultBytes) × (length (now text) ≡ textRoom resultBytes) ⌝ }
+    requires { ⌜ (length (now work) ≡ workBytes) × (length (now result) ≡ resultBytes)
+        × (length (now text) ≡ textRoom resultBytes) ⌝ }
     ensures { λ r. ⌜ Program (now (input .entry)) (take r (now (text .exit))) × (r ≤ length (now (text .exit))) ⌝ }
 {
     let answer = answer_to(input, work, result);

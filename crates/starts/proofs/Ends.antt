@@ -24,7 +24,8 @@ use Rattle.rule.specs.Rule.{Block, TimesNeverFall, behindEnd, pack}
 use Rattle.rule.specs.Promises.{StartByStart, Measure, Outcome, refusedWith, success, mostCounted}
 use Rattle.rule.specs.Calls.{inputAnswer, zeros, roomIn, resultOf, StartByStartCall, MeasureCall}
 use Rattle.rule.specs.Starts.{Found, foundAll, linesOf, leastOver, startAnswer, measureAnswer}
-use Rattle.rule.proofs.StartAnswers.{start-answer-is, measure-answer-is, ends-long, ends-full, ends-well, measure-ends-long, measure-ends-well}
+use Rattle.rule.proofs.StartAnswers.{start-answer-is, measure-answer-is, ends-long, ends-full, ends-well}
+use Rattle.rule.proofs.StartAnswers.{measure-ends-long, measure-ends-well}
 use Rattle.slots.proofs.Results.{bytesOf-append}
 use Rattle.starts.specs.declared.Counts.{Counts}
 use Rattle.starts.specs.Sinks.{Sink, sinkOf, stop, emits, noneYet, answerBy, leftBy, measureBy}
@@ -50,7 +51,9 @@ module _ (bytes : List ℕ) (o : InOrder bytes) where
       omega arith
 
 module _ (pattern block : List ℕ) where
-  pub input-pattern : (patternAnswer pattern .code ≡ 0 → ⊥) → inputAnswer pattern block ≡ refused (patternAnswer pattern .code) (patternAnswer pattern .place)
+  pub input-pattern :
+      (patternAnswer pattern .code ≡ 0 → ⊥)
+      → inputAnswer pattern block ≡ refused (patternAnswer pattern .code) (patternAnswer pattern .place)
   unfolding inputAnswer
   input-pattern h = rw (ne-eqb (patternAnswer pattern .code) 0 h, inputAnswer)
 
@@ -74,7 +77,10 @@ zeros-bytes (suc k) =
     ap (λ (l : List ℕ). 0 ∷ 0 ∷ l) (zeros-bytes k) ∙ ap zeros e
 
 -- unused numbers are 0, and so is a left-over byte
-unused : (lent : ℕ) (numbers : List ℕ) → length numbers ≤ roomIn lent → bytesOf numbers ++ zeros (lent - 2 * length numbers) ≡ resultOf lent (numbers ++ replicate (roomIn lent - length numbers) 0)
+unused :
+    (lent : ℕ) (numbers : List ℕ) → length numbers ≤ roomIn lent
+    → bytesOf numbers ++ zeros (lent - 2 * length numbers)
+    ≡ resultOf lent (numbers ++ replicate (roomIn lent - length numbers) 0)
 unused lent numbers h =
     let k : ℕ = roomIn lent - length numbers in
     let n : length (numbers ++ replicate k 0) ≡ length numbers + k = length-append numbers (replicate k 0) ∙ (let z = length-replicate {A = ℕ} k 0 in omega arith) in
@@ -102,7 +108,8 @@ pub record Answered (p : Pattern) (B : Block) (lent : ℕ) (answer : Answer) (af
   pub promise : StartByStart p B (roomIn lent) (record { answer = answer; numbers = numbers })
   pub left : after ≡ resultOf lent numbers
 
-module _ (p : Pattern) (B : Block) (mono : TimesNeverFall B) (few : length B ≤ mostRecords) (lent memory : List ℕ) (o : Counts) (e : sinkOf memory o ≡ emits (sinkOf lent noneYet) (foundAll p B)) where
+module _ (p : Pattern) (B : Block) (mono : TimesNeverFall B) (few : length B ≤ mostRecords) (lent memory : List ℕ)
+    (o : Counts) (e : sinkOf memory o ≡ emits (sinkOf lent noneYet) (foundAll p B)) where
   abbrev found : List Found
   found = foundAll p B
 
@@ -120,7 +127,10 @@ module _ (p : Pattern) (B : Block) (mono : TimesNeverFall B) (few : length B ≤
     room = roomIn (length lent)
 
     -- the same answer and bytes as those of the list
-    meets : (outcome : Outcome) → startAnswer p B room ≡ outcome → (answer : Answer) (after : List ℕ) → answer ≡ outcome .answer → after ≡ resultOf (length lent) (outcome .numbers) → Answered p B (length lent) answer after
+    meets :
+        (outcome : Outcome) → startAnswer p B room ≡ outcome → (answer : Answer) (after : List ℕ)
+        → answer ≡ outcome .answer → after ≡ resultOf (length lent) (outcome .numbers)
+        → Answered p B (length lent) answer after
     meets outcome q answer after a b =
         record {
           numbers = outcome .numbers;
@@ -132,7 +142,9 @@ module _ (p : Pattern) (B : Block) (mono : TimesNeverFall B) (few : length B ≤
     cleared : replicate (length memory) 0 ≡ resultOf (length lent) (replicate room 0)
     cleared = ap zeros size ∙ all-unused (length lent)
 
-    long : o .least < mostRecords → (answer : Answer) (after : List ℕ) → answer ≡ answerBy o room → after ≡ leftBy o memory → Answered p B (length lent) answer after
+    long :
+        o .least < mostRecords → (answer : Answer) (after : List ℕ) → answer ≡ answerBy o room → after ≡ leftBy o memory
+        → Answered p B (length lent) answer after
     unfolding answerBy leftBy
     long h answer after a b =
         let t = lt-ltb (o .least) mostRecords h in
@@ -141,7 +153,10 @@ module _ (p : Pattern) (B : Block) (mono : TimesNeverFall B) (few : length B ≤
         (a ∙ rw (t, answerBy) (ap (refused 9) l))
         (b ∙ rw (t, leftBy) cleared)
 
-    full : mostRecords ≤ o .least → room < o .used → (answer : Answer) (after : List ℕ) → answer ≡ answerBy o room → after ≡ leftBy o memory → Answered p B (length lent) answer after
+    full :
+        mostRecords ≤ o .least → room < o .used → (answer : Answer) (after : List ℕ)
+        → answer ≡ answerBy o room → after ≡ leftBy o memory
+        → Answered p B (length lent) answer after
     unfolding answerBy leftBy
     full h g answer after a b =
         let t = le-ltb (o .least) mostRecords h in
@@ -152,7 +167,10 @@ module _ (p : Pattern) (B : Block) (mono : TimesNeverFall B) (few : length B ≤
         (a ∙ rw (t, lt-ltb room (o .used) g, answerBy))
         (b ∙ rw (t, half, lt-ltb room (o .used) g, leftBy) cleared)
 
-    well : mostRecords ≤ o .least → o .used ≤ room → (answer : Answer) (after : List ℕ) → answer ≡ answerBy o room → after ≡ leftBy o memory → Answered p B (length lent) answer after
+    well :
+        mostRecords ≤ o .least → o .used ≤ room → (answer : Answer) (after : List ℕ)
+        → answer ≡ answerBy o room → after ≡ leftBy o memory
+        → Answered p B (length lent) answer after
     unfolding answerBy leftBy bytesOf
     well h g answer after a b =
         let t = le-ltb (o .least) mostRecords h in
@@ -172,7 +190,9 @@ module _ (p : Pattern) (B : Block) (mono : TimesNeverFall B) (few : length B ≤
         ∙ rw (t, half, le-ltb room (o .used) g, leftBy) (λ i. m i ++ zeros (w i))
         ∙ unused (length lent) (pack (linesOf found)) (omega arith))
 
-    pub start-ends : (answer : Answer) (after : List ℕ) → answer ≡ answerBy o room → after ≡ leftBy o memory → Answered p B (length lent) answer after
+    pub start-ends :
+        (answer : Answer) (after : List ℕ) → answer ≡ answerBy o room → after ≡ leftBy o memory
+        → Answered p B (length lent) answer after
     start-ends answer after a b =
         by-order (o .least) mostRecords
         (λ h. long h answer after a b)
@@ -202,19 +222,29 @@ module _ (p : Pattern) (B : Block) (mono : TimesNeverFall B) (few : length B ≤
 -- ## What finish leaves
 
 module _ (o : Counts) (memory : List ℕ) where
-  pub finish-long : o .least < mostRecords → (answer : Answer) (after : List ℕ) → answer ≡ refused 9 (o .least) → after ≡ replicate (length memory) 0 → (answer ≡ answerBy o (length memory / 2)) × (after ≡ leftBy o memory)
+  pub finish-long :
+      o .least < mostRecords → (answer : Answer) (after : List ℕ)
+      → answer ≡ refused 9 (o .least) → after ≡ replicate (length memory) 0
+      → (answer ≡ answerBy o (length memory / 2)) × (after ≡ leftBy o memory)
   unfolding answerBy leftBy
   finish-long h answer after a b =
       let t = lt-ltb (o .least) mostRecords h in (rw (t, answerBy) a, rw (t, leftBy) b)
 
-  pub finish-full : mostRecords ≤ o .least → length memory / 2 < o .used → (answer : Answer) (after : List ℕ) → answer ≡ refused 11 0 → after ≡ replicate (length memory) 0 → (answer ≡ answerBy o (length memory / 2)) × (after ≡ leftBy o memory)
+  pub finish-full :
+      mostRecords ≤ o .least → length memory / 2 < o .used → (answer : Answer) (after : List ℕ)
+      → answer ≡ refused 11 0 → after ≡ replicate (length memory) 0
+      → (answer ≡ answerBy o (length memory / 2)) × (after ≡ leftBy o memory)
   unfolding answerBy leftBy
   finish-full h g answer after a b =
       let t = le-ltb (o .least) mostRecords h in
       let u = lt-ltb (length memory / 2) (o .used) g in
       (rw (t, u, answerBy) a, rw (t, u, leftBy) b)
 
-  pub finish-well : mostRecords ≤ o .least → o .used ≤ length memory / 2 → (answer : Answer) (after : List ℕ) → answer ≡ record { code = 0; place = 0; used = o .used; readings = o .readings; peak = 0 } → after ≡ take (2 * o .used) memory ++ replicate (length memory - 2 * o .used) 0 → (answer ≡ answerBy o (length memory / 2)) × (after ≡ leftBy o memory)
+  pub finish-well :
+      mostRecords ≤ o .least → o .used ≤ length memory / 2 → (answer : Answer) (after : List ℕ)
+      → answer ≡ record { code = 0; place = 0; used = o .used; readings = o .readings; peak = 0 }
+      → after ≡ take (2 * o .used) memory ++ replicate (length memory - 2 * o .used) 0
+      → (answer ≡ answerBy o (length memory / 2)) × (after ≡ leftBy o memory)
   unfolding answerBy leftBy
   finish-well h g answer after a b =
       let t = le-ltb (o .least) mostRecords h in
@@ -227,25 +257,35 @@ module _ (pattern block : List ℕ) (checked : Checked) (is : checked ≡ patter
   same-code : checked .code ≡ patternAnswer pattern .code
   same-code = ap (λ (x : Checked). x .code) is
 
-  refused-pattern : (checked .code ≡ 0 → ⊥) → (answer : Answer) → answer ≡ refused (checked .code) (checked .place) → (¬ (inputAnswer pattern block .code ≡ 0)) × (answer ≡ inputAnswer pattern block)
+  refused-pattern :
+      (checked .code ≡ 0 → ⊥) → (answer : Answer) → answer ≡ refused (checked .code) (checked .place)
+      → (¬ (inputAnswer pattern block .code ≡ 0)) × (answer ≡ inputAnswer pattern block)
   refused-pattern h answer a =
       let e = input-pattern pattern block (λ z. h (same-code ∙ z)) in
       ((λ z. h (same-code ∙ sym (ap (λ (x : Answer). x .code) e) ∙ z)), a ∙ ap (λ (x : Checked). refused (x .code) (x .place)) is ∙ sym e)
 
-  pub call-pattern : (checked .code ≡ 0 → ⊥) → (lent : ℕ) (answer : Answer) (after : List ℕ) → answer ≡ refused (checked .code) (checked .place) → after ≡ zeros lent → StartByStartCall pattern block lent answer after
+  pub call-pattern :
+      (checked .code ≡ 0 → ⊥) → (lent : ℕ) (answer : Answer) (after : List ℕ)
+      → answer ≡ refused (checked .code) (checked .place) → after ≡ zeros lent
+      → StartByStartCall pattern block lent answer after
   call-pattern h lent answer after a b = let r = refused-pattern h answer a in StartByStartCall.refused-input (r .0) (r .1) b
 
-  pub measure-pattern : (checked .code ≡ 0 → ⊥) → (answer : Answer) → answer ≡ refused (checked .code) (checked .place) → MeasureCall pattern block answer
+  pub measure-pattern :
+      (checked .code ≡ 0 → ⊥) → (answer : Answer) → answer ≡ refused (checked .code) (checked .place)
+      → MeasureCall pattern block answer
   measure-pattern h answer a = let r = refused-pattern h answer a in MeasureCall.refused-input (r .0) (r .1)
 
   module _ (good : checked .code ≡ 0) (input : Answer) (by : input ≡ blockAnswer block) where
     whole-input : inputAnswer pattern block ≡ blockAnswer block
     whole-input = input-block pattern block (sym same-code ∙ good)
 
-    refused-block : (input .code ≡ 0 → ⊥) → (¬ (inputAnswer pattern block .code ≡ 0)) × (input ≡ inputAnswer pattern block)
+    refused-block :
+        (input .code ≡ 0 → ⊥) → (¬ (inputAnswer pattern block .code ≡ 0)) × (input ≡ inputAnswer pattern block)
     refused-block h = ((λ z. h (ap (λ (x : Answer). x .code) (by ∙ sym whole-input) ∙ z)), by ∙ sym whole-input)
 
-    pub call-block : (input .code ≡ 0 → ⊥) → (lent : ℕ) (answer : Answer) (after : List ℕ) → answer ≡ input → after ≡ zeros lent → StartByStartCall pattern block lent answer after
+    pub call-block :
+        (input .code ≡ 0 → ⊥) → (lent : ℕ) (answer : Answer) (after : List ℕ) → answer ≡ input → after ≡ zeros lent
+        → StartByStartCall pattern block lent answer after
     call-block h lent answer after a b = let r = refused-block h in StartByStartCall.refused-input (r .0) (a ∙ r .1) b
 
     pub measure-block : (input .code ≡ 0 → ⊥) → MeasureCall pattern block input
@@ -265,7 +305,8 @@ module _ (pattern block : List ℕ) (checked : Checked) (is : checked ≡ patter
       few-records = let f = block-good .few in omega (arith, length-records block)
 
       pub call-answered :
-          (lent memory : List ℕ) (o : Counts) → sinkOf memory o ≡ emits (sinkOf lent noneYet) (foundAll (checked .pattern) (recordsOf block))
+          (lent memory : List ℕ) (o : Counts)
+          → sinkOf memory o ≡ emits (sinkOf lent noneYet) (foundAll (checked .pattern) (recordsOf block))
           → length memory ≡ length lent
           → length lent < stop
           → (answer : Answer) (after : List ℕ) → answer ≡ answerBy o (length memory / 2)
@@ -278,7 +319,8 @@ module _ (pattern block : List ℕ) (checked : Checked) (is : checked ≡ patter
           StartByStartCall.answered answers (q .numbers) (q .promise) (q .left)
 
       pub measure-answered :
-          (lent memory : List ℕ) (o : Counts) → sinkOf memory o ≡ emits (sinkOf lent noneYet) (foundAll (checked .pattern) (recordsOf block))
+          (lent memory : List ℕ) (o : Counts)
+          → sinkOf memory o ≡ emits (sinkOf lent noneYet) (foundAll (checked .pattern) (recordsOf block))
           → (answer : Answer) → answer ≡ measureBy o
           → MeasureCall pattern block answer
       measure-answered lent memory o e answer a =
@@ -292,7 +334,10 @@ module _ (o : Counts) where
   unfolding measureBy
   measured-long h answer a = rw (lt-ltb (o .least) mostRecords h, measureBy) a
 
-  pub measured-well : mostRecords ≤ o .least → (used readings : ℕ) → used ≡ min (o .used) mostCounted → readings ≡ min (o .readings) mostCounted → _≡_ {A = Answer} (record { code = 0; place = 0; used = used; readings = readings; peak = 0 }) (measureBy o)
+  pub measured-well :
+      mostRecords ≤ o .least → (used readings : ℕ)
+      → used ≡ min (o .used) mostCounted → readings ≡ min (o .readings) mostCounted
+      → _≡_ {A = Answer} (record { code = 0; place = 0; used = used; readings = readings; peak = 0 }) (measureBy o)
   unfolding measureBy
   measured-well h used readings a b =
       rw (le-ltb (o .least) mostRecords h, measureBy) (λ i. record { code = 0; place = 0; used = a i; readings = b i; peak = 0 })

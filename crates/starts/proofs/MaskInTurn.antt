@@ -1,5 +1,5 @@
--- Each firing variable in turn, by the bits of a mask: none left, the lowest first, and the variables that fire by the rule.
--- Assumes nothing.
+-- Each firing variable in turn, by the bits of a mask: none left, the lowest first, and the variables that fire by the
+-- rule. Assumes nothing.
 use mathlib.Core.Path.{_≡_, refl, sym, ap, ap₂, _∙_}
 use mathlib.Core.Bool.{Bool, true, false, not, _&&_, and-false}
 use mathlib.Core.List.{List, [], _++_}
@@ -18,18 +18,23 @@ use Rattle.automaton.proofs.Membership.{clash}
 use Rattle.rule.specs.Starts.{Found, inTurn}
 use Rattle.rule.proofs.SkipBranch.{turn-end, turn-to, turn-takes}
 
-filter-same : (f g : ℕ → Bool) (n v : ℕ) → ((u : ℕ) → v ≤ u → u < v + n → f u ≡ g u) → filter f (upto v n) ≡ filter g (upto v n)
+filter-same :
+    (f g : ℕ → Bool) (n v : ℕ) → ((u : ℕ) → v ≤ u → u < v + n → f u ≡ g u) → filter f (upto v n) ≡ filter g (upto v n)
 unfolding upto filter
 filter-same f g zero v h = refl
 filter-same f g (suc n) v h =
     ap₂ (λ (t : Bool) (l : List ℕ). keep t v l) (h v (omega arith) (omega arith)) (filter-same f g n (suc v) (λ u a b. h u (omega arith) (omega arith)))
 
-pub turn-same : (f g : ℕ → Bool) (next : ℕ → List Found) (v n : ℕ) → ((u : ℕ) → v ≤ u → u < v + n → f u ≡ g u) → inTurn f next v n ≡ inTurn g next v n
+pub turn-same :
+    (f g : ℕ → Bool) (next : ℕ → List Found) (v n : ℕ) → ((u : ℕ) → v ≤ u → u < v + n → f u ≡ g u)
+    → inTurn f next v n ≡ inTurn g next v n
 unfolding inTurn
 turn-same f g next v n h = ap (collect next) (filter-same f g n v h)
 
 -- the number without bit v
-rest-bit : (firing v u : ℕ) → firing < 2 ^ mostVariables → v < mostVariables → u < mostVariables → bit (firing - oneIf (bit firing v) * 2 ^ v) u ≡ not (eqb v u) && bit firing u
+rest-bit :
+    (firing v u : ℕ) → firing < 2 ^ mostVariables → v < mostVariables → u < mostVariables
+    → bit (firing - oneIf (bit firing v) * 2 ^ v) u ≡ not (eqb v u) && bit firing u
 rest-bit firing v u h l m =
     ap (λ (x : ℕ). bit (x - oneIf (bit x v) * 2 ^ v) u) (sym (mask-of-bits firing mostVariables h))
     ∙ ap (λ (x : ℕ). bit x u) (mask-without (bit firing) mostVariables v)
@@ -72,7 +77,9 @@ module _ (next : ℕ → List Found) (n : ℕ) where
           (λ b. let e : v ≡ u = omega arith in ap (λ (t : Bool). not t && bit firing u) (eq-eqb v u e))
 
 -- the variables of a mask
-pub mask-turn : (test : ℕ → Bool) (next : ℕ → List Found) (n firing : ℕ) → firing ≡ mask test n → inTurn test next 0 (n - 0) ≡ inTurn (bit firing) next 0 n
+pub mask-turn :
+    (test : ℕ → Bool) (next : ℕ → List Found) (n firing : ℕ) → firing ≡ mask test n
+    → inTurn test next 0 (n - 0) ≡ inTurn (bit firing) next 0 n
 mask-turn test next n firing e =
     all-of-them next n test
     ∙ turn-same test (bit firing) next 0 n (λ u a b. sym (ap (λ (x : ℕ). bit x u) e ∙ mask-inside test n u (omega arith)))
@@ -82,7 +89,10 @@ pub low-bits : (firing n v : ℕ) → firing < 2 ^ n → bit firing v ≡ true �
 low-bits firing n v h e = by-order v n (λ l. l) (λ l. clash e (bit-high firing n v h l))
 
 -- what is left is less, and has no bit that was not there
-pub rest-known : (firing v u : ℕ) → firing < 2 ^ mostVariables → v < mostVariables → bit (firing - oneIf (bit firing v) * 2 ^ v) u ≡ true → bit firing u ≡ true
+pub rest-known :
+    (firing v u : ℕ) → firing < 2 ^ mostVariables → v < mostVariables
+    → bit (firing - oneIf (bit firing v) * 2 ^ v) u ≡ true
+    → bit firing u ≡ true
 rest-known firing v u h l e =
     by-test (bit firing u) (λ t. t)
     (λ t.
@@ -90,7 +100,8 @@ rest-known firing v u h l e =
     (λ m. clash e (rest-bit firing v u h l m ∙ ap (λ (x : Bool). not (eqb v u) && x) t ∙ and-false (not (eqb v u))))
     (λ m. clash e (bit-high (firing - oneIf (bit firing v) * 2 ^ v) mostVariables u (omega arith) m)))
 
-pub rest-less : (firing v bits : ℕ) → 0 < firing → IsLowestBit bits firing v → firing - oneIf (bit firing v) * 2 ^ v < firing
+pub rest-less :
+    (firing v bits : ℕ) → 0 < firing → IsLowestBit bits firing v → firing - oneIf (bit firing v) * 2 ^ v < firing
 rest-less firing v bits h low =
     let e : oneIf (bit firing v) * 2 ^ v ≡ 1 * 2 ^ v = ap (λ (t : Bool). oneIf t * 2 ^ v) (low .here) in
     let w : 0 < 2 ^ v = pow-pos v in

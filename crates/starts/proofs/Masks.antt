@@ -1,5 +1,5 @@
--- The variables that fire, in parts: what each record's own conditions allow, settled once a call; of it the variables that
--- leave the state; of these the ones that agree with what is bound. Assumes nothing.
+-- The variables that fire, in parts: what each record's own conditions allow, settled once a call; of it the variables
+-- that leave the state; of these the ones that agree with what is bound. Assumes nothing.
 use mathlib.Core.Path.{_≡_, refl, sym, ap, ap₂, subst, _∙_}
 use mathlib.Core.Bool.{Bool, true, not, _&&_, and-true, and-assoc}
 use mathlib.Core.List.{List, []}
@@ -16,7 +16,8 @@ use Rattle.numbers.specs.Numbers.{oneIf, every}
 use Rattle.numbers.specs.Bits.{bit, mask, disjoint, IsLowestBit}
 use Rattle.numbers.proofs.Cases.{by-order}
 use Rattle.numbers.proofs.Every.{every-of}
-use Rattle.numbers.proofs.Bits.{bit-high, bit-zero, bit-and, bit-without, bits-same, mask-bound, mask-inside, mask-nothing, mask-same, mask-without, weight-in, weight-in-le}
+use Rattle.numbers.proofs.Bits.{bit-high, bit-zero, bit-and, bit-without, bits-same, mask-bound, mask-inside}
+use Rattle.numbers.proofs.Bits.{mask-nothing, mask-same, mask-without, weight-in, weight-in-le}
 use Rattle.records.specs.Records.{recordCount}
 use Rattle.patterns.specs.Patterns.{mostVariables, mostConditions}
 use Rattle.automaton.specs.Filtering.{all}
@@ -49,7 +50,8 @@ module _ (plan bytes : List ℕ) (i : ℕ) (h : Held) where
   -- the lowest variable, and the others
   pub agreeing-lowest :
       (rest v : ℕ) → rest < 2 ^ mostVariables → IsLowestBit 64 rest v
-      → agreeingBy plan bytes i rest h ≡ oneIf (agreesBy plan bytes i v h) * 2 ^ v + agreeingBy plan bytes i (rest - oneIf (bit rest v) * 2 ^ v) h
+      → agreeingBy plan bytes i rest h
+      ≡ oneIf (agreesBy plan bytes i v h) * 2 ^ v + agreeingBy plan bytes i (rest - oneIf (bit rest v) * 2 ^ v) h
   unfolding agreeingBy
   agreeing-lowest rest v small low =
       let whole : ℕ = mask (agree rest) mostVariables in
@@ -87,7 +89,9 @@ module _ (plan bytes : List ℕ) (n c i : ℕ) where
       bit-and can (mask (leavesBy plan state) n) v
       ∙ ap (λ (t : Bool). bit can v && t) (mask-inside (leavesBy plan state) n v l)
 
-  pub firing-parts : (h : Held) → n ≤ mostVariables → agreeingBy plan bytes i (bitAnd can (leavingBy plan n (h .state))) h ≡ firingBy plan bytes n c i h
+  pub firing-parts :
+      (h : Held) → n ≤ mostVariables
+      → agreeingBy plan bytes i (bitAnd can (leavingBy plan n (h .state))) h ≡ firingBy plan bytes n c i h
   unfolding agreeingBy firingBy firesBy
   firing-parts h few =
       bits-same (mask (agree plan bytes i h allowed) mostVariables) (mask fires n) mostVariables (mask-bound (agree plan bytes i h allowed) mostVariables)
@@ -118,7 +122,9 @@ module _ (plan bytes : List ℕ) (n c i : ℕ) where
       ap (λ (t : Bool). t && every (joinHolds plan bytes i v []) mostConditions) (implies-of (disjoint state (marksIn plan v)) true (λ e. refl))
       ∙ every-of (joinHolds plan bytes i v []) mostConditions (λ k l. implies-of (bit (joinsIn plan v) k) true (λ e. refl))
 
-  pub firing-first : (state : ℕ) → bitAnd can (leavingBy plan n state) ≡ firingBy plan bytes n c i (record { state = state; bindings = [] })
+  pub firing-first :
+      (state : ℕ)
+      → bitAnd can (leavingBy plan n state) ≡ firingBy plan bytes n c i (record { state = state; bindings = [] })
   unfolding firingBy firesBy
   firing-first state =
       bits-same (bitAnd can (leavingBy plan n state)) (mask fires n) n (allowed-bound (leavingBy plan n state)) (mask-bound fires n)
@@ -145,21 +151,28 @@ cans-more plan bytes n c i cans x l e each k m =
     (λ z. getD-set-other cans i k x 0 (λ q. omega arith) ∙ each k z)
     (eq-or-lt-of-le {n = k} {m = i} (omega arith))
 
-module _ (plan bytes : List ℕ) (n c : ℕ) (few : n ≤ mostVariables) (cans : List ℕ) (settled : Cans plan bytes n c cans) (i : ℕ) (inside : i < recordCount bytes) where
+module _ (plan bytes : List ℕ) (n c : ℕ) (few : n ≤ mostVariables) (cans : List ℕ) (settled : Cans plan bytes n c cans)
+    (i : ℕ) (inside : i < recordCount bytes) where
   pub read-bound : getD cans i 0 < 2 ^ mostVariables
   read-bound = rw (settled .each i inside) (lt-of-lt-of-le (can-bound plan bytes n c i) (pow-mono few))
 
   pub allowed-read : (leave : ℕ) → bitAnd (getD cans i 0) leave < 2 ^ mostVariables
   allowed-read leave = lt-of-le-of-lt (and-le-l (getD cans i 0) leave) read-bound
 
-  pub firing-read : (h : Held) (leave : ℕ) → leave ≡ leavingBy plan n (h .state) → agreeingBy plan bytes i (bitAnd (getD cans i 0) leave) h ≡ firingBy plan bytes n c i h
+  pub firing-read :
+      (h : Held) (leave : ℕ) → leave ≡ leavingBy plan n (h .state)
+      → agreeingBy plan bytes i (bitAnd (getD cans i 0) leave) h ≡ firingBy plan bytes n c i h
   firing-read h leave e =
       ap₂ (λ (x y : ℕ). agreeingBy plan bytes i (bitAnd x y) h) (settled .each i inside) e ∙ firing-parts plan bytes n c i h few
 
   -- where no variable can fire and leave the state
-  pub none-read : (h : Held) (leave : ℕ) → leave ≡ leavingBy plan n (h .state) → bitAnd (getD cans i 0) leave ≡ 0 → firingBy plan bytes n c i h ≡ 0
+  pub none-read :
+      (h : Held) (leave : ℕ) → leave ≡ leavingBy plan n (h .state) → bitAnd (getD cans i 0) leave ≡ 0
+      → firingBy plan bytes n c i h ≡ 0
   none-read h leave e z =
       sym (firing-read h leave e) ∙ ap (λ (x : ℕ). agreeingBy plan bytes i x h) z ∙ agreeing-none plan bytes i h
 
-  pub first-read : (leave : ℕ) → leave ≡ leavingBy plan n 0 → bitAnd (getD cans i 0) leave ≡ firingBy plan bytes n c i (record { state = 0; bindings = [] })
+  pub first-read :
+      (leave : ℕ) → leave ≡ leavingBy plan n 0
+      → bitAnd (getD cans i 0) leave ≡ firingBy plan bytes n c i (record { state = 0; bindings = [] })
   first-read leave e = ap₂ bitAnd (settled .each i inside) e ∙ firing-first plan bytes n c i 0

@@ -1,5 +1,5 @@
--- The reading that a slot holds: the plan's tests on the slot are the rule's on the reading, and so are what fires next and
--- whether the reading is full; a slot grows with its reading. Assumes nothing.
+-- The reading that a slot holds: the plan's tests on the slot are the rule's on the reading, and so are what fires next
+-- and whether the reading is full; a slot grows with its reading. Assumes nothing.
 use mathlib.Core.Path.{_≡_, refl, sym, ap, ap₂, subst, _∙_}
 use mathlib.Core.Bool.{true, false}
 use mathlib.Core.List.{List, [], List·Memᴰ, List·Memᴰ·head, List·Memᴰ·tail, List·Memᴰ·not-nil}
@@ -104,7 +104,8 @@ module _ (n j : ℕ) (slot : List ℕ) (r : Reads n j slot) (few : n ≤ mostVar
 
   -- ## What fires
 
-  module _ (p : Pattern) (plan bytes : List ℕ) (c : ℕ) (o : Of p plan bytes n c) (i : ℕ) (after : j ≤ i) (h : i < recordCount bytes) where
+  module _ (p : Pattern) (plan bytes : List ℕ) (c : ℕ) (o : Of p plan bytes n c) (i : ℕ) (after : j ≤ i)
+      (h : i < recordCount bytes) where
     abbrev reading : Reading
     reading = heldIn slot .bindings
 
@@ -138,7 +139,10 @@ module _ (n j : ℕ) (slot : List ℕ) (r : Reads n j slot) (few : n ≤ mostVar
         absurd (omega arith))
 
 -- what a call of `fires` asks for
-pub fit : (plan bytes : List ℕ) (n c j : ℕ) (slot : List ℕ) → Usable plan bytes n c → Reads n j slot → (i : ℕ) → j ≤ i → i < recordCount bytes → Fit plan bytes i slot
+pub fit :
+    (plan bytes : List ℕ) (n c j : ℕ) (slot : List ℕ) → Usable plan bytes n c
+    → Reads n j slot → (i : ℕ) → j ≤ i → i < recordCount bytes
+    → Fit plan bytes i slot
 fit plan bytes n c j slot u r i after h =
     record {
       sound = u .sound;
@@ -181,7 +185,8 @@ module _ (slot more : List ℕ) (j v : ℕ) (e : heldIn more ≡ grow j v (heldI
     grown-held : heldIn more ≡ holding (withBinding (heldIn slot .bindings) v j)
     grown-held = e ∙ ap (grow j v) (r .held) ∙ holding-grow (heldIn slot .bindings) j v (omega arith)
 
-    pub grown-reads : length more ≡ slotBytes → countIn more ≡ countIn slot + 1 → countIn slot < mostBindings → Reads n (j + 1) more
+    pub grown-reads :
+        length more ≡ slotBytes → countIn more ≡ countIn slot + 1 → countIn slot < mostBindings → Reads n (j + 1) more
     grown-reads size count room =
         record {
           size = size;
@@ -203,7 +208,8 @@ module _ (slot more : List ℕ) (j v : ℕ) (e : heldIn more ≡ grow j v (heldI
         latest : (b : Binding) → List·Memᴰ b (withBinding (heldIn slot .bindings) v j) → b .at ≤ j
         latest b m = let w = below b m in omega arith
 
-pub empty-reads : (slot : List ℕ) (n j : ℕ) → heldIn slot ≡ nothing → length slot ≡ slotBytes → countIn slot ≡ 0 → Reads n j slot
+pub empty-reads :
+    (slot : List ℕ) (n j : ℕ) → heldIn slot ≡ nothing → length slot ≡ slotBytes → countIn slot ≡ 0 → Reads n j slot
 empty-reads slot n j e size count =
     let z : heldIn slot .bindings ≡ [] = ap (λ (x : Held). x .bindings) e in
     record {

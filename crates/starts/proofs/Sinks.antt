@@ -27,14 +27,18 @@ emits-append s (e ∷ l) m = emits-append (emit s e) l m
 
 pub sink-same :
     {m m′ : List ℕ} {u u′ r r′ l l′ : ℕ} → m ≡ m′ → u ≡ u′ → r ≡ r′ → l ≡ l′
-    → _≡_ {A = Sink} (record { memory = m; used = u; readings = r; least = l }) (record { memory = m′; used = u′; readings = r′; least = l′ })
+    → _≡_ {A = Sink} (record { memory = m; used = u; readings = r; least = l })
+    (record { memory = m′; used = u′; readings = r′; least = l′ })
 sink-same p q s t = λ i. record { memory = p i; used = q i; readings = s i; least = t i }
 
-pub put-room : (memory : List ℕ) (at : ℕ) (bytes : List ℕ) → at + length bytes ≤ length memory → put memory at bytes ≡ written memory at bytes
+pub put-room :
+    (memory : List ℕ) (at : ℕ) (bytes : List ℕ) → at + length bytes ≤ length memory
+    → put memory at bytes ≡ written memory at bytes
 unfolding put
 put-room memory at bytes h = rw (le-leb (at + length bytes) (length memory) h, put)
 
-pub put-none : (memory : List ℕ) (at : ℕ) (bytes : List ℕ) → length memory < at + length bytes → put memory at bytes ≡ memory
+pub put-none :
+    (memory : List ℕ) (at : ℕ) (bytes : List ℕ) → length memory < at + length bytes → put memory at bytes ≡ memory
 unfolding put
 put-none memory at bytes h = rw (lt-leb (at + length bytes) (length memory) h, put)
 
@@ -43,10 +47,12 @@ length-line mark r = length-bytesOf (lineNumbers mark r) ∙ (let n = length-pac
 
 module _ (memory : List ℕ) (counts : Counts) (mark : ℕ) (slot : List ℕ) where
   counted :
-      (after : List ℕ) (used readings : ℕ) → after ≡ put memory (2 * counts .used) (bytesOf (lineNumbers mark (heldIn slot .bindings)))
+      (after : List ℕ) (used readings : ℕ)
+      → after ≡ put memory (2 * counts .used) (bytesOf (lineNumbers mark (heldIn slot .bindings)))
       → used ≡ sum (counts .used) (countIn slot + 1)
       → readings ≡ sum (counts .readings) 1
-      → _≡_ {A = Sink} (record { memory = after; used = used; readings = readings; least = counts .least }) (emit (sinkOf memory counts) (closed mark (heldIn slot .bindings)))
+      → _≡_ {A = Sink} (record { memory = after; used = used; readings = readings; least = counts .least })
+      (emit (sinkOf memory counts) (closed mark (heldIn slot .bindings)))
   unfolding emit
   counted after used readings p q s =
       sink-same p (q ∙ ap (λ (k : ℕ). sum (counts .used) (k + 1)) (sym (length-heldIn slot))) s refl
@@ -56,7 +62,8 @@ module _ (memory : List ℕ) (counts : Counts) (mark : ℕ) (slot : List ℕ) wh
       → after ≡ written memory (2 * counts .used) (bytesOf (lineNumbers mark (heldIn slot .bindings)))
       → used ≡ sum (counts .used) (countIn slot + 1)
       → readings ≡ sum (counts .readings) 1
-      → _≡_ {A = Sink} (record { memory = after; used = used; readings = readings; least = counts .least }) (emit (sinkOf memory counts) (closed mark (heldIn slot .bindings)))
+      → _≡_ {A = Sink} (record { memory = after; used = used; readings = readings; least = counts .least })
+      (emit (sinkOf memory counts) (closed mark (heldIn slot .bindings)))
   reported after used readings h p q s =
       let n = length-line mark (heldIn slot .bindings) in
       let m = length-heldIn slot in
@@ -66,7 +73,8 @@ module _ (memory : List ℕ) (counts : Counts) (mark : ℕ) (slot : List ℕ) wh
       (used readings : ℕ) → length memory < 2 * counts .used + 2 + 2 * countIn slot
       → used ≡ sum (counts .used) (countIn slot + 1)
       → readings ≡ sum (counts .readings) 1
-      → _≡_ {A = Sink} (record { memory = memory; used = used; readings = readings; least = counts .least }) (emit (sinkOf memory counts) (closed mark (heldIn slot .bindings)))
+      → _≡_ {A = Sink} (record { memory = memory; used = used; readings = readings; least = counts .least })
+      (emit (sinkOf memory counts) (closed mark (heldIn slot .bindings)))
   unreported used readings h q s =
       let n = length-line mark (heldIn slot .bindings) in
       let m = length-heldIn slot in
@@ -85,14 +93,17 @@ least-all (over j ∷ l) s =
     least-all l (emit s (over j)) ∙ ap (λ (k : ℕ). leastOver k l) e ∙ m
 
 -- how many numbers a line packs to, before the others
-lines-more : (mark : ℕ) (r : Reading) (l : List Found) → length (pack (linesOf (closed mark r ∷ l))) ≡ length r + 1 + length (pack (linesOf l))
+lines-more :
+    (mark : ℕ) (r : Reading) (l : List Found)
+    → length (pack (linesOf (closed mark r ∷ l))) ≡ length r + 1 + length (pack (linesOf l))
 unfolding linesOf
 lines-more mark r l =
     let n = length-pack-bindings r in
     let a = length-append (packBindings r) (pack (linesOf l)) in
     omega arith
 
-pub used-all : (l : List Found) (s : Sink) → s .used ≤ stop → emits s l .used ≡ min (s .used + length (pack (linesOf l))) stop
+pub used-all :
+    (l : List Found) (s : Sink) → s .used ≤ stop → emits s l .used ≡ min (s .used + length (pack (linesOf l))) stop
 unfolding emits emit linesOf sum
 used-all [] s h = omega arith
 used-all (closed mark r ∷ l) s h =
@@ -100,7 +111,8 @@ used-all (closed mark r ∷ l) s h =
     used-all l (emit s (closed mark r)) (omega arith) ∙ omega arith
 used-all (over j ∷ l) s h = used-all l (emit s (over j)) h
 
-pub readings-all : (l : List Found) (s : Sink) → s .readings ≤ stop → emits s l .readings ≡ min (s .readings + length (linesOf l)) stop
+pub readings-all :
+    (l : List Found) (s : Sink) → s .readings ≤ stop → emits s l .readings ≡ min (s .readings + length (linesOf l)) stop
 unfolding emits emit linesOf sum
 readings-all [] s h = omega arith
 readings-all (closed mark r ∷ l) s h = readings-all l (emit s (closed mark r)) (omega arith) ∙ omega arith
@@ -115,10 +127,12 @@ readings-few (over j ∷ l) = readings-few l
 
 -- the numbers so far stand in front, and those found are written behind them
 pub memory-all :
-    (l : List Found) (s : Sink) (numbers : List ℕ) → s .used ≡ length numbers → take (2 * s .used) (s .memory) ≡ bytesOf numbers
+    (l : List Found) (s : Sink) (numbers : List ℕ) → s .used ≡ length numbers
+    → take (2 * s .used) (s .memory) ≡ bytesOf numbers
     → 2 * (length numbers + length (pack (linesOf l))) ≤ length (s .memory)
     → length (s .memory) ≤ stop
-    → take (2 * (length numbers + length (pack (linesOf l)))) (emits s l .memory) ≡ bytesOf (numbers ++ pack (linesOf l))
+    → take (2 * (length numbers + length (pack (linesOf l)))) (emits s l .memory)
+    ≡ bytesOf (numbers ++ pack (linesOf l))
 unfolding emits emit linesOf sum
 memory-all [] s numbers u t h m =
     let e : 2 * (length numbers + 0) ≡ 2 * s .used = omega arith in

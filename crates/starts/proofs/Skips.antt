@@ -1,5 +1,5 @@
--- What each way out of skip and of branch comes to in the lent result and the counts, and what their calls ask for. Assumes
--- nothing.
+-- What each way out of skip and of branch comes to in the lent result and the counts, and what their calls ask for.
+-- Assumes nothing.
 use mathlib.Core.Path.{_≡_, refl, sym, ap, _∙_}
 use mathlib.Core.List.{List, _++_}
 use Prim.Native.Nat.{ℕ, suc, _+_, _-_, _*_, _^_, _≤_, _<_, min}
@@ -73,7 +73,10 @@ module _ (plan bytes : List ℕ) (s : Start) (slot : List ℕ) (j : ℕ) where
         → Branched plan bytes s slot j firing before after
     branch-takes rest before middle after q first others = record { found = found }
       where
-        found : (p : Pattern) → Of p plan bytes (s .n) (s .c) → after ≡ emits before (branchOver p (recordsOf bytes) (s .mark) (s .until) j (heldIn slot .bindings) firing)
+        found :
+            (p : Pattern) → Of p plan bytes (s .n) (s .c)
+            → after ≡ emits before
+            (branchOver p (recordsOf bytes) (s .mark) (s .until) j (heldIn slot .bindings) firing)
         found p o =
             let next : ℕ → List Found = λ w. skipUntil p (recordsOf bytes) (s .mark) (s .until) (suc j) (withBinding (heldIn slot .bindings) w j) in
             let few = at .ready .usable .variables in
@@ -103,7 +106,8 @@ module _ (plan bytes : List ℕ) (s : Start) (slot : List ℕ) (j : ℕ) where
 
   -- ## Skip
 
-  module _ (v : ℕ) (at : Taking plan bytes s slot j v) (more : List ℕ) (grown : (heldIn more ≡ grow j v (heldIn slot)) × (length more ≡ slotBytes) × (countIn more ≡ countIn slot + 1)) where
+  module _ (v : ℕ) (at : Taking plan bytes s slot j v) (more : List ℕ) (grown : (heldIn more ≡ grow j v (heldIn slot))
+      × (length more ≡ slotBytes) × (countIn more ≡ countIn slot + 1)) where
     abbrev reading : Reading
     reading = heldIn more .bindings
 
@@ -121,7 +125,8 @@ module _ (plan bytes : List ℕ) (s : Start) (slot : List ℕ) (j : ℕ) where
     -- what the grown slot's reading comes to
     skipped :
         (before after : Sink)
-        → ((p : Pattern) → Of p plan bytes (s .n) (s .c) → after ≡ emits before (skipUntil p (recordsOf bytes) (s .mark) (s .until) (j + 1) reading))
+        → ((p : Pattern) → Of p plan bytes (s .n) (s .c)
+        → after ≡ emits before (skipUntil p (recordsOf bytes) (s .mark) (s .until) (j + 1) reading))
         → Skipped plan bytes s slot j v before after
     skipped before after found =
         record {
@@ -134,7 +139,9 @@ module _ (plan bytes : List ℕ) (s : Start) (slot : List ℕ) (j : ℕ) where
     grown-closes = reads-later (s .n) (j + 1) (s .until) more (grown-ready .within) (grown-ready .reads)
 
     module _ (f : Fire) (next : NextBy plan bytes s more (j + 1) f) where
-      pub skip-closes : f .at ≡ s .until → (before after : Sink) → Closed s more before after → Skipped plan bytes s slot j v before after
+      pub skip-closes :
+          f .at ≡ s .until → (before after : Sink) → Closed s more before after
+          → Skipped plan bytes s slot j v before after
       skip-closes e before after closed =
           skipped before after
           (λ p o.
@@ -147,7 +154,8 @@ module _ (plan bytes : List ℕ) (s : Start) (slot : List ℕ) (j : ℕ) where
         fires-before = let l = next .upTo in omega (arith, ne)
 
         pub skip-notes :
-            countIn more ≡ mostBindings → (memory : List ℕ) (counts o : Counts) → o .used ≡ counts .used → o .readings ≡ counts .readings → o .least ≡ min (counts .least) (f .at)
+            countIn more ≡ mostBindings → (memory : List ℕ) (counts o : Counts) → o .used ≡ counts .used
+            → o .readings ≡ counts .readings → o .least ≡ min (counts .least) (f .at)
             → Skipped plan bytes s slot j v (sinkOf memory counts) (sinkOf memory o)
         unfolding emits emit
         skip-notes full memory counts o a b d =
@@ -183,7 +191,9 @@ module _ (plan bytes : List ℕ) (s : Start) (slot : List ℕ) (j : ℕ) where
                 known = λ w t. low-bits (f .variables) (s .n) w small t;
               }
 
-          pub skip-branches : (before after : Sink) → Branched plan bytes s more (f .at) (f .variables) before after → Skipped plan bytes s slot j v before after
+          pub skip-branches :
+              (before after : Sink) → Branched plan bytes s more (f .at) (f .variables) before after
+              → Skipped plan bytes s slot j v before after
           skip-branches before after branched =
               skipped before after
               (λ p o.

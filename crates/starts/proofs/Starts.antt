@@ -31,15 +31,20 @@ pub record Started (plan bytes : List ℕ) (n c duration i : ℕ) (before after 
       (p : Pattern) → Of p plan bytes n c → p .duration ≡ duration
       → after ≡ emits before (startFound p (recordsOf bytes) i)
 
-module _ (plan bytes : List ℕ) (n c duration i : ℕ) (usable : Usable plan bytes n c) (inside : i < recordCount bytes) where
-  pub started-gap : (recordAt bytes i .kind ≡ eventKind → ⊥) → (before : Sink) → Started plan bytes n c duration i before before
+module _ (plan bytes : List ℕ) (n c duration i : ℕ) (usable : Usable plan bytes n c)
+    (inside : i < recordCount bytes) where
+  pub started-gap :
+      (recordAt bytes i .kind ≡ eventKind → ⊥) → (before : Sink) → Started plan bytes n c duration i before before
   unfolding emits
   started-gap e before =
       record { found = λ p o d. ap (emits before) (sym (found-gap p (recordsOf bytes) i (is-gap bytes i inside e))) }
 
   module _ (firing : ℕ) (is : firing ≡ firingBy plan bytes n c i nothing) where
     -- the readings that begin at record i, by the mask of the variables that fire there
-    start-over : recordAt bytes i .kind ≡ eventKind → (p : Pattern) → Of p plan bytes n c → startFound p (recordsOf bytes) i ≡ branchOver p (recordsOf bytes) (markOf p (recordsOf bytes) i) (until p (recordsOf bytes) i) i [] firing
+    start-over :
+        recordAt bytes i .kind ≡ eventKind → (p : Pattern) → Of p plan bytes n c
+        → startFound p (recordsOf bytes) i
+        ≡ branchOver p (recordsOf bytes) (markOf p (recordsOf bytes) i) (until p (recordsOf bytes) i) i [] firing
     start-over event p o =
         start-event p (recordsOf bytes) i (is-event bytes i inside event)
         ∙ mask-turn (λ v. fires p (recordsOf bytes) [] v i)
@@ -60,7 +65,8 @@ module _ (plan bytes : List ℕ) (n c duration i : ℕ) (usable : Usable plan by
         })
         (λ t. started-gap (eqb-false (recordAt bytes i .kind) eventKind t) before)
 
-    module _ (event : recordAt bytes i .kind ≡ eventKind) (slot : List ℕ) (none : heldIn slot ≡ nothing) (s : Start) (start : StartIs bytes n c duration i s) where
+    module _ (event : recordAt bytes i .kind ≡ eventKind) (slot : List ℕ) (none : heldIn slot ≡ nothing) (s : Start)
+        (start : StartIs bytes n c duration i s) where
       pub start-firing : length slot ≡ slotBytes → countIn slot ≡ 0 → Firing plan bytes s slot i firing
       start-firing size count =
           let after = start .after in
@@ -80,7 +86,9 @@ module _ (plan bytes : List ℕ) (n c duration i : ℕ) (usable : Usable plan by
             known = λ v t. let l = low-bits firing n v small t in omega (arith, start .variables);
           }
 
-      pub started-branch : (before after : Sink) → Branched plan bytes s slot i firing before after → Started plan bytes n c duration i before after
+      pub started-branch :
+          (before after : Sink) → Branched plan bytes s slot i firing before after
+          → Started plan bytes n c duration i before after
       started-branch before after branched =
           record {
             found = λ p o d.
@@ -107,7 +115,9 @@ module _ (plan bytes : List ℕ) (n c duration : ℕ) (none : Sink) where
       }
 
   module _ (i : ℕ) (now : Sink) (left : Left plan bytes n c duration i none now) where
-    pub left-more : i < recordCount bytes → (next : Sink) → Started plan bytes n c duration i now next → Left plan bytes n c duration (i + 1) none next
+    pub left-more :
+        i < recordCount bytes → (next : Sink) → Started plan bytes n c duration i now next
+        → Left plan bytes n c duration (i + 1) none next
     left-more l next started =
         record {
           found = λ p o d.

@@ -1,4 +1,5 @@
--- Where the readings of a start close, by the bytes of the block, is where the rule says, and so is the mark. Assumes nothing.
+-- Where the readings of a start close, by the bytes of the block, is where the rule says, and so is the mark.
+-- Assumes nothing.
 use mathlib.Core.Path.{_≡_, refl, sym, ap, ap₂, subst, _∙_}
 use mathlib.Core.Bool.{true, false}
 use mathlib.Core.Logic.{⊎-elim}
@@ -18,7 +19,8 @@ use Rattle.patterns.specs.declared.Pattern.{Pattern}
 use Rattle.rule.specs.Rule.{Block, behindEnd, pastMark, endMark, gapMark}
 use Rattle.rule.specs.Computed.{isEvent}
 use Rattle.rule.specs.Starts.{isPast, closesAt, until, markAt}
-use Rattle.rule.proofs.SkipBranch.{stays-open, closes-gap, closes-past, until-at, until-end, mark-past, mark-gap, mark-end}
+use Rattle.rule.proofs.SkipBranch.{stays-open, closes-gap, closes-past, until-at, until-end, mark-past, mark-gap}
+use Rattle.rule.proofs.SkipBranch.{mark-end}
 use Rattle.starts.specs.Skips.{OpenTo, StartIs}
 
 module _ (bytes : List ℕ) where
@@ -29,7 +31,9 @@ module _ (bytes : List ℕ) where
   unfolding isEvent
   event-by q l = ap (λ (x : Record). eqb (x .kind) eventKind) (record-listed bytes q behindEnd l)
 
-  past-by : (p : Pattern) (i q : ℕ) → i < recordCount bytes → q < recordCount bytes → isPast p B i q ≡ ltb (recordAt bytes i .time + p .duration) (recordAt bytes q .time)
+  past-by :
+      (p : Pattern) (i q : ℕ) → i < recordCount bytes → q < recordCount bytes
+      → isPast p B i q ≡ ltb (recordAt bytes i .time + p .duration) (recordAt bytes q .time)
   unfolding isPast
   past-by p i q k l = ap₂ (λ (x y : Record). ltb (x .time + p .duration) (y .time)) (record-listed bytes i behindEnd k) (record-listed bytes q behindEnd l)
 
@@ -49,7 +53,10 @@ module _ (bytes : List ℕ) where
         (past-by p i q (omega arith) (omega arith) ∙ le-ltb (recordAt bytes i .time + p .duration) (recordAt bytes q .time) (omega arith))
 
     -- one record more
-    pub open-more : k < recordCount bytes → recordAt bytes k .kind ≡ eventKind → recordAt bytes k .time ≤ recordAt bytes i .time + duration → OpenTo bytes duration i (k + 1)
+    pub open-more :
+        k < recordCount bytes → recordAt bytes k .kind ≡ eventKind
+        → recordAt bytes k .time ≤ recordAt bytes i .time + duration
+        → OpenTo bytes duration i (k + 1)
     open-more inside e t =
         record {
           event = λ q a b. ⊎-elim (λ z. subst (λ (x : ℕ). recordAt bytes x .kind ≡ eventKind) (sym z) e) (λ z. opened .event q a z) (eq-or-lt-of-le {n = q} {m = k} (omega arith));
@@ -57,7 +64,9 @@ module _ (bytes : List ℕ) where
         }
 
     module _ (n c : ℕ) where
-      start-by : (mark : ℕ) → mark < 16 → ((p : Pattern) → p .duration ≡ duration → until p B i ≡ k) → markAt B k ≡ mark → StartIs bytes n c duration i (record { n = n; c = c; until = k; mark = mark })
+      start-by :
+          (mark : ℕ) → mark < 16 → ((p : Pattern) → p .duration ≡ duration → until p B i ≡ k) → markAt B k ≡ mark
+          → StartIs bytes n c duration i (record { n = n; c = c; until = k; mark = mark })
       start-by mark small u m =
           record {
             variables = refl;
@@ -70,14 +79,19 @@ module _ (bytes : List ℕ) where
             mark = λ p d. sym m ∙ ap (markAt B) (sym (u p d));
           }
 
-      pub start-gap : k < recordCount bytes → (recordAt bytes k .kind ≡ eventKind → ⊥) → StartIs bytes n c duration i (record { n = n; c = c; until = k; mark = gapMark })
+      pub start-gap :
+          k < recordCount bytes → (recordAt bytes k .kind ≡ eventKind → ⊥)
+          → StartIs bytes n c duration i (record { n = n; c = c; until = k; mark = gapMark })
       start-gap inside e =
           let z : k < length B = omega (arith, length-records bytes) in
           start-by gapMark (omega arith)
           (λ p d. until-at p B i k z (none-closes p d) (closes-gap p B i k l (is-gap k inside e)))
           (mark-gap B k z (is-gap k inside e))
 
-      pub start-past : k < recordCount bytes → recordAt bytes k .kind ≡ eventKind → ltb (recordAt bytes i .time + duration) (recordAt bytes k .time) ≡ true → StartIs bytes n c duration i (record { n = n; c = c; until = k; mark = pastMark })
+      pub start-past :
+          k < recordCount bytes → recordAt bytes k .kind ≡ eventKind
+          → ltb (recordAt bytes i .time + duration) (recordAt bytes k .time) ≡ true
+          → StartIs bytes n c duration i (record { n = n; c = c; until = k; mark = pastMark })
       start-past inside e t =
           let z : k < length B = omega (arith, length-records bytes) in
           start-by pastMark (omega arith)
@@ -85,7 +99,8 @@ module _ (bytes : List ℕ) where
           (past-by p i k (omega arith) inside ∙ ap (λ (x : ℕ). ltb (recordAt bytes i .time + x) (recordAt bytes k .time)) d ∙ t)))
           (mark-past B k (is-event k inside e))
 
-      pub start-end : recordCount bytes ≤ k → StartIs bytes n c duration i (record { n = n; c = c; until = k; mark = endMark })
+      pub start-end :
+          recordCount bytes ≤ k → StartIs bytes n c duration i (record { n = n; c = c; until = k; mark = endMark })
       start-end end =
           let z : k ≡ length B = omega (arith, length-records bytes) in
           start-by endMark (omega arith)
@@ -99,13 +114,15 @@ pub open-none : (bytes : List ℕ) (duration i : ℕ) → OpenTo bytes duration 
 open-none bytes duration i = record { event = λ q a b. absurd (omega arith); near = λ q a b. absurd (omega arith) }
 
 -- the record itself is no record of its window
-pub open-from : (bytes : List ℕ) (duration i k m : ℕ) → m ≡ max (i + 1) k → OpenTo bytes duration i k → OpenTo bytes duration i m
+pub open-from :
+    (bytes : List ℕ) (duration i k m : ℕ) → m ≡ max (i + 1) k → OpenTo bytes duration i k → OpenTo bytes duration i m
 open-from bytes duration i k m e opened =
     record { event = λ q a b. opened .event q a (omega arith); near = λ q a b. opened .near q a (omega arith) }
 
 -- what is open from one record is open from the next, whose time is later
 pub open-later :
-    (bytes : List ℕ) (duration i k : ℕ) → ((q : ℕ) → suc q < recordCount bytes → recordAt bytes q .time < recordAt bytes (suc q) .time)
+    (bytes : List ℕ) (duration i k : ℕ)
+    → ((q : ℕ) → suc q < recordCount bytes → recordAt bytes q .time < recordAt bytes (suc q) .time)
     → k ≤ recordCount bytes
     → OpenTo bytes duration i k
     → OpenTo bytes duration (i + 1) k

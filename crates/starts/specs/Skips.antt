@@ -1,5 +1,5 @@
--- What skip and branch ask for and what they do, by the plan and the slot that they are handed. No promise of a public call
--- names this file.
+-- What skip and branch ask for and what they do, by the plan and the slot that they are handed. No promise of a public
+-- call names this file.
 use mathlib.Core.Path.{_≡_}
 use mathlib.Core.Bool.{true, _&&_}
 use mathlib.Core.List.{List, List·Memᴰ}
@@ -39,8 +39,8 @@ pub record Cans (plan bytes : List ℕ) (n c : ℕ) (cans : List ℕ) : Type 0 w
   pub size : length cans ≡ mostRecords
   pub each : (i : ℕ) → i < recordCount bytes → getD cans i 0 ≡ canBy plan n c bytes i
 
--- a slot that holds a reading of the first n variables, with its state; its records stand below j, none of them behind the
--- latest binding's
+-- a slot that holds a reading of the first n variables, with its state; its records stand below j, none of them behind
+-- the latest binding's
 pub record Reads (n j : ℕ) (slot : List ℕ) : Type 0 where
   pub size : length slot ≡ slotBytes
   pub few : countIn slot ≤ mostBindings
@@ -107,14 +107,16 @@ pub record Closed (s : Start) (slot : List ℕ) (before after : Sink) : Type 0 w
 pub record Skipped (plan bytes : List ℕ) (s : Start) (slot : List ℕ) (j v : ℕ) (before after : Sink) : Type 0 where
   pub found :
       (p : Pattern) → Of p plan bytes (s .n) (s .c)
-      → after ≡ emits before (skipUntil p (recordsOf bytes) (s .mark) (s .until) (suc j) (withBinding (heldIn slot .bindings) v j))
+      → after ≡ emits before
+      (skipUntil p (recordsOf bytes) (s .mark) (s .until) (suc j) (withBinding (heldIn slot .bindings) v j))
 
 -- each of the firing variables in turn, at record j
 abbrev pub branchOver : Pattern → Block → ℕ → ℕ → ℕ → Reading → ℕ → List Found
 branchOver p B mark end j r firing =
     inTurn (bit firing) (λ w. skipUntil p B mark end (suc j) (withBinding r w j)) 0 (p .n)
 
-pub record Branched (plan bytes : List ℕ) (s : Start) (slot : List ℕ) (j firing : ℕ) (before after : Sink) : Type 0 where
+pub record Branched (plan bytes : List ℕ) (s : Start) (slot : List ℕ) (j firing : ℕ)
+    (before after : Sink) : Type 0 where
   pub found :
       (p : Pattern) → Of p plan bytes (s .n) (s .c)
       → after ≡ emits before (branchOver p (recordsOf bytes) (s .mark) (s .until) j (heldIn slot .bindings) firing)

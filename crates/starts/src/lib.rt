@@ -16,7 +16,8 @@ ghost use Rattle.slots.specs.Slots.{slotBytes, countIn, heldIn};
 ghost use Rattle.firing.specs.Plan.{planRoom};
 ghost use Rattle.firing.specs.Firing.{Fit};
 ghost use Rattle.starts.specs.Sinks.{sinkOf, sum as sumTo, emit, emits, noneYet, answerBy, leftBy, measureBy};
-ghost use Rattle.starts.specs.Skips.{leavingBy, agreeingBy, Cans, Reads, Usable, Ready, Taking, Firing, NextBy, Closed, Skipped, Branched, OpenTo, StartIs, AllStarted};
+ghost use Rattle.starts.specs.Skips.{leavingBy, agreeingBy, Cans, Reads, Usable, Ready, Taking, Firing, NextBy};
+ghost use Rattle.starts.specs.Skips.{Closed, Skipped, Branched, OpenTo, StartIs, AllStarted};
 
 // The number of no record.
 const NO_RECORD: usize = records::MOST_RECORDS;
@@ -27,7 +28,8 @@ const MOST_COUNTED: usize = 4294967295;
 // Where counts stop: beyond any room.
 const STOP: usize = 18446744073709551615;
 
-// What one start fixes: how many variables and conditions there are, the record at which its readings close, and their mark.
+// What one start fixes: how many variables and conditions there are, the record at which its readings close,
+// and their mark.
 pub struct Start {
     pub n: usize,
     pub c: usize,
@@ -60,7 +62,8 @@ fn sum(a: usize, b: usize) -> usize
 // Writes a reading that closed, where there is room, and counts it.
 fn report(result: &mut [u8], slot: &[u8], mark: u8, counts: Counts) -> Counts
     requires { ⌜ (length (now slot) ≡ slotBytes) × (countIn (now slot) ≤ mostBindings) × (mark < 16) ⌝ }
-    ensures { λ o. ⌜ sinkOf (now (result .exit)) o ≡ emit (sinkOf (now (result .entry)) counts) (closed mark (heldIn (now (slot .entry)) .bindings)) ⌝ }
+    ensures { λ o. ⌜ sinkOf (now (result .exit)) o
+        ≡ emit (sinkOf (now (result .entry)) counts) (closed mark (heldIn (now (slot .entry)) .bindings)) ⌝ }
 {
     let bindings = slots::count_of(slot);
     let at = counts.used;
@@ -89,7 +92,8 @@ fn is_full(state: u64, n: usize) -> bool
 // A reading closes: it is reported where its state is full.
 fn close(result: &mut [u8], slot: &[u8], s: Start, counts: Counts) -> Counts
     requires { ⌜ (Reads (s .n) (s .until) (now slot)) × (s .n ≤ mostVariables) × (s .mark < 16) ⌝ }
-    ensures { λ o. ⌜ Closed s (now (slot .entry)) (sinkOf (now (result .entry)) counts) (sinkOf (now (result .exit)) o) ⌝ }
+    ensures { λ o. ⌜ Closed s (now (slot .entry)) (sinkOf (now (result .entry)) counts)
+        (sinkOf (now (result .exit)) o) ⌝ }
 {
     if is_full(slots::state_of(slot), s.n) {
         report(result, slot, s.mark, counts)
@@ -100,7 +104,8 @@ fn close(result: &mut [u8], slot: &[u8], s: Start, counts: Counts) -> Counts
 
 // A reading would take a binding too many at record j: the least such record is kept.
 fn note_over(counts: Counts, j: usize) -> Counts
-    ensures { λ o. ⌜ (o .used ≡ counts .used) × (o .readings ≡ counts .readings) × (o .least ≡ min (counts .least) j) ⌝ }
+    ensures { λ o. ⌜ (o .used ≡ counts .used) × (o .readings ≡ counts .readings)
+        × (o .least ≡ min (counts .least) j) ⌝ }
 {
     if j < counts.least {
         Counts {
@@ -191,7 +196,8 @@ fn next_fire(
     j: usize,
     slot: &[u8],
 ) -> Fire
-    requires { ⌜ (Ready (now plan) (now block) s (now slot) j) × Cans (now plan) (now block) (s .n) (s .c) (now cans) ⌝ }
+    requires { ⌜ (Ready (now plan) (now block) s (now slot) j)
+        × Cans (now plan) (now block) (s .n) (s .c) (now cans) ⌝ }
     ensures { λ f. ⌜ NextBy (now (plan .entry)) (now (block .entry)) s (now (slot .entry)) j f ⌝ }
 {
     let leave = leaving(plan, s.n, slots::state_of(slot));
@@ -229,8 +235,10 @@ fn skip(
     result: &mut [u8],
     counts: Counts,
 ) -> Counts
-    requires { ⌜ (Taking (now plan) (now block) s (slot .bytes) j v) × Cans (now plan) (now block) (s .n) (s .c) (now cans) ⌝ }
-    ensures { λ o. ⌜ Skipped (now (plan .entry)) (now (block .entry)) s (slot .bytes) j v (sinkOf (now (result .entry)) counts) (sinkOf (now (result .exit)) o) ⌝ }
+    requires { ⌜ (Taking (now plan) (now block) s (slot .bytes) j v)
+        × Cans (now plan) (now block) (s .n) (s .c) (now cans) ⌝ }
+    ensures { λ o. ⌜ Skipped (now (plan .entry)) (now (block .entry)) s (slot .bytes) j v
+        (sinkOf (now (result .entry)) counts) (sinkOf (now (result .exit)) o) ⌝ }
 {
     let mut bytes = slot.bytes;
     slots::bind(&mut bytes, j, v);
@@ -266,8 +274,10 @@ fn branch(
     result: &mut [u8],
     counts: Counts,
 ) -> Counts
-    requires { ⌜ (Firing (now plan) (now block) s (slot .bytes) j firing) × Cans (now plan) (now block) (s .n) (s .c) (now cans) ⌝ }
-    ensures { λ o. ⌜ Branched (now (plan .entry)) (now (block .entry)) s (slot .bytes) j firing (sinkOf (now (result .entry)) counts) (sinkOf (now (result .exit)) o) ⌝ }
+    requires { ⌜ (Firing (now plan) (now block) s (slot .bytes) j firing)
+        × Cans (now plan) (now block) (s .n) (s .c) (now cans) ⌝ }
+    ensures { λ o. ⌜ Branched (now (plan .entry)) (now (block .entry)) s (slot .bytes) j firing
+        (sinkOf (now (result .entry)) counts) (sinkOf (now (result .exit)) o) ⌝ }
 {
     let mut taken = counts;
     let mut rest = firing;
@@ -300,7 +310,8 @@ fn larger(a: usize, b: usize) -> usize
 
 // What record i fixes as the first of a reading; no record before `opened` closes it.
 fn start_at(block: &[u8], n: usize, c: usize, duration: u64, i: usize, opened: usize) -> Start
-    requires { ⌜ (i < recordCount (now block)) × (opened ≤ recordCount (now block)) × OpenTo (now block) duration i opened ⌝ }
+    requires { ⌜ (i < recordCount (now block)) × (opened ≤ recordCount (now block))
+        × OpenTo (now block) duration i opened ⌝ }
     ensures { λ s. ⌜ StartIs (now (block .entry)) n c duration i s ⌝ }
 {
     let first = records::time_at(block, i);
@@ -334,8 +345,9 @@ fn start_at(block: &[u8], n: usize, c: usize, duration: u64, i: usize, opened: u
     }
 }
 
-// Each record in turn as the first of a reading; a gap is none. The variables of `first` leave the state of no bindings.
-// Readings of a later start close no earlier, so each search for the record that closes goes on where the last one ended.
+// Each record in turn as the first of a reading; a gap is none. The variables of `first` leave the state of no
+// bindings. Readings of a later start close no earlier, so each search for the record that closes goes on where the
+// last one ended.
 fn each_start(
     block: &[u8],
     plan: &[u64; firing::PLAN_ROOM],
@@ -345,7 +357,8 @@ fn each_start(
     result: &mut [u8],
 ) -> Counts
     requires { ⌜ Usable (now plan) (now block) n c ⌝ }
-    ensures { λ o. ⌜ AllStarted (now (plan .entry)) (now (block .entry)) n c duration (sinkOf (now (result .entry)) noneYet) (sinkOf (now (result .exit)) o) ⌝ }
+    ensures { λ o. ⌜ AllStarted (now (plan .entry)) (now (block .entry)) n c duration
+        (sinkOf (now (result .entry)) noneYet) (sinkOf (now (result .exit)) o) ⌝ }
 {
     let mut counts = Counts {
         used: 0,
@@ -380,7 +393,8 @@ fn each_start(
 // All that is found of a checked pattern in a checked block.
 fn pass(p: patterns::Pattern, block: &[u8], result: &mut [u8]) -> Counts
     requires { ⌜ (InOrder p) × BlockInOrder (now block) ⌝ }
-    ensures { λ o. ⌜ sinkOf (now (result .exit)) o ≡ emits (sinkOf (now (result .entry)) noneYet) (foundAll p (recordsOf (now (block .entry)))) ⌝ }
+    ensures { λ o. ⌜ sinkOf (now (result .exit)) o
+        ≡ emits (sinkOf (now (result .entry)) noneYet) (foundAll p (recordsOf (now (block .entry)))) ⌝ }
 {
     let plan = firing::plan_of(p);
     each_start(block, &plan, p.n, p.c, p.duration, result)
@@ -398,7 +412,8 @@ fn refuse(result: &mut [u8], answer: records::Answer) -> records::Answer
 
 // Refusals 9 and 11, or what was counted with the bytes behind it 0.
 fn finish(result: &mut [u8], counts: Counts) -> records::Answer
-    ensures { λ a. ⌜ (a ≡ answerBy counts (length (now (result .entry)) / 2)) × (now (result .exit) ≡ leftBy counts (now (result .entry))) ⌝ }
+    ensures { λ a. ⌜ (a ≡ answerBy counts (length (now (result .entry)) / 2))
+        × (now (result .exit) ≡ leftBy counts (now (result .entry))) ⌝ }
 {
     if counts.least < NO_RECORD {
         return refuse(result, records::refusal(9, counts.least as u32));
@@ -446,7 +461,8 @@ fn measured(counts: Counts) -> records::Answer
 // The start-by-start pass over the bytes of a pattern and a block (Rule 7.6), with the refusals of Rule 8.16. No code
 // looks for 13: a reading's records rise, so it never binds one again.
 pub fn start_by_start(pattern: &[u8], block: &[u8], result: &mut [u8]) -> records::Answer
-    ensures { λ a. ⌜ StartByStartCall (now (pattern .entry)) (now (block .entry)) (length (now (result .entry))) a (now (result .exit)) ⌝ }
+    ensures { λ a. ⌜ StartByStartCall (now (pattern .entry)) (now (block .entry)) (length (now (result .entry))) a
+        (now (result .exit)) ⌝ }
 {
     let checked = patterns::check_pattern(pattern);
     if checked.code != 0 {

@@ -19,7 +19,9 @@ abbrev test : Pattern → ℕ → ℕ → ℕ → Bool
 test p s v i = carries (stateOf s) v (conditionAt p i)
 
 -- one condition more
-next : (f : ℕ → Bool) (i sum weight : ℕ) (flag : Bool) → sum ≡ mask f i → weight ≡ oneIf flag * 2 ^ i → flag ≡ f i → sum + weight ≡ mask f (i + 1)
+next :
+    (f : ℕ → Bool) (i sum weight : ℕ) (flag : Bool) → sum ≡ mask f i → weight ≡ oneIf flag * 2 ^ i → flag ≡ f i
+    → sum + weight ≡ mask f (i + 1)
 next f i sum weight flag s w e = ap₂ _+_ s (w ∙ ap (λ (t : Bool). oneIf t * 2 ^ i) e) ∙ sym (mask-more f i)
 
 abbrev Inv-loop : tie.InvT-loop

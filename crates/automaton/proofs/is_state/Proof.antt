@@ -1,4 +1,5 @@
--- `automaton::is_state` meets its contract: every variable passed, where it is bound, has all earlier sets bound. Assumes nothing.
+-- `automaton::is_state` meets its contract: every variable passed, where it is bound, has all earlier sets bound.
+-- Assumes nothing.
 use mathlib.Core.Path.{_≡_, _∙_, sym}
 use mathlib.Core.Bool.{Bool, true}
 use Prim.Native.Nat.{ℕ, _-_, _≤_, _<_}

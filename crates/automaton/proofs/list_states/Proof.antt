@@ -1,4 +1,5 @@
--- `automaton::list_states` meets its contract: what is put so far and the steps from the numbers left are all steps. Assumes nothing.
+-- `automaton::list_states` meets its contract: what is put so far and the steps from the numbers left are all steps.
+-- Assumes nothing.
 use mathlib.Core.Path.{_≡_, _∙_, sym, refl, ap, subst}
 use Prim.Native.Nat.{ℕ, _-_, _*_, _^_, _≤_, _<_}
 use native.Mathlib.Omega.{arith}

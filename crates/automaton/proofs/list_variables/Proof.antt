@@ -1,4 +1,5 @@
--- `automaton::list_variables` meets its contract: what is put so far and the steps on the variables left are the steps from s. Assumes nothing.
+-- `automaton::list_variables` meets its contract: what is put so far and the steps on the variables left are the steps
+-- from s. Assumes nothing.
 use mathlib.Core.Path.{_≡_, _∙_, sym, refl, ap}
 use Prim.Native.Nat.{ℕ, _+_, _-_, _≤_}
 use native.Mathlib.Omega.{arith}

@@ -1,5 +1,5 @@
--- `forward::begin` meets its contract: the readings that begin variable by variable, the lowest of those left first. Assumes
--- nothing.
+-- `forward::begin` meets its contract: the readings that begin variable by variable, the lowest of those left first.
+-- Assumes nothing.
 use mathlib.Core.Path.{ap, _∙_}
 use Prim.Native.Nat.{_^_, _<_}
 use native.Mathlib.Omega.{arith}

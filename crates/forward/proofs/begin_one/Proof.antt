@@ -1,5 +1,5 @@
--- `forward::begin_one` meets its contract: one reading where the variable leaves the state without bindings, none otherwise.
--- Assumes nothing.
+-- `forward::begin_one` meets its contract: one reading where the variable leaves the state without bindings, none
+-- otherwise. Assumes nothing.
 use mathlib.Core.Path.{sym, _∙_}
 use Rattle.slots.specs.Slots.{heldIn}
 use Rattle.forward.specs.Live.{unbound}

@@ -1,4 +1,5 @@
--- `forward::emit_bound` meets its contract: one reading more in the next slot, bound there, or only counted. Assumes nothing.
+-- `forward::emit_bound` meets its contract: one reading more in the next slot, bound there, or only counted.
+-- Assumes nothing.
 use mathlib.Core.Path.{ap, _∙_}
 use Prim.Native.Nat.{ℕ, _+_, _*_}
 use native.Mathlib.Omega.{arith}

@@ -1,4 +1,5 @@
--- `forward::forward` meets its contract: each check refuses as the promise says, and the pass answers the rest. Assumes nothing.
+-- `forward::forward` meets its contract: each check refuses as the promise says, and the pass answers the rest.
+-- Assumes nothing.
 use mathlib.Core.Path.{sym, ap, _∙_}
 use Prim.Native.Nat.{ℕ}
 use native.Mathlib.Omega.{arith}
@@ -6,7 +7,8 @@ use lib.ListN.{length, replicate}
 use Rattle.records.specs.declared.Answer.{Answer}
 use Rattle.records.specs.Blocks.{refused}
 use Rattle.patterns.specs.declared.Checked.{Checked}
-use Rattle.forward.proofs.Calls.{limit-good, call-pattern, call-block, call-limit, call-passed, pattern-checked, block-prepared, done-room}
+use Rattle.forward.proofs.Calls.{limit-good, call-pattern, call-block, call-limit, call-passed, pattern-checked}
+use Rattle.forward.proofs.Calls.{block-prepared, done-room}
 use borrow.Author.Needs.{needs}
 use Rattle.forward.proofs.forward.Statement.{statement}
 use Rattle.forward.proofs.forward.Tie as tie

@@ -1,4 +1,5 @@
--- `forward::move_on` meets its contract: the readings stand in the other half, or stay where no variable can fire. Assumes nothing.
+-- `forward::move_on` meets its contract: the readings stand in the other half, or stay where no variable can fire.
+-- Assumes nothing.
 use native.Mathlib.Omega.{arith}
 use Rattle.forward.proofs.Halves.{half-in, other-in, start-in, halves-apart, few-stand, moved-idle, moved-over}
 use borrow.Author.Needs.{needs}

@@ -1,4 +1,5 @@
--- `forward::pass` meets its contract: record by record as the rule scans the block, to a refusal or to the end. Assumes nothing.
+-- `forward::pass` meets its contract: record by record as the rule scans the block, to a refusal or to the end.
+-- Assumes nothing.
 use mathlib.Core.Path.{_≡_, refl, ap, _∙_}
 use Prim.Native.Nat.{ℕ, _-_, _/_, _≤_}
 use native.Mathlib.Omega.{arith}
@@ -8,7 +9,9 @@ use Rattle.forward.specs.Flags.{isSet}
 use Rattle.forward.proofs.Flags.{flag-set, flag-clear}
 use Rattle.forward.proofs.Halves.{start-in}
 use Rattle.forward.proofs.HeldByRule.{pow-some}
-use Rattle.forward.proofs.AllRecords.{Going, going-start, going-short, going-begun, going-gone, left-ready, left-stands, left-short, front-short, stop-11, stop-9, stop-10, going-on, end-11, end-ran, ran-refused}
+use Rattle.forward.proofs.AllRecords.{Going, going-start, going-short, going-begun, going-gone, left-ready}
+use Rattle.forward.proofs.AllRecords.{left-stands, left-short, front-short, stop-11, stop-9, stop-10, going-on}
+use Rattle.forward.proofs.AllRecords.{end-11, end-ran, ran-refused}
 use Rattle.forward.proofs.pass.Statement.{statement}
 use Rattle.forward.proofs.pass.Tie as tie
 

@@ -1,4 +1,5 @@
--- `forward::spread` meets its contract: the extensions variable by variable, the lowest of those left first. Assumes nothing.
+-- `forward::spread` meets its contract: the extensions variable by variable, the lowest of those left first.
+-- Assumes nothing.
 use mathlib.Core.Path.{ap, _∙_}
 use Prim.Native.Nat.{ℕ, _^_, _<_}
 use native.Mathlib.Omega.{arith}

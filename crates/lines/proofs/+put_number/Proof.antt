@@ -1,5 +1,5 @@
--- `lines::put_number` meets its contract: the digits of a tenth of the number, and the last digit. The measure is the room
--- for digits. Assumes nothing.
+-- `lines::put_number` meets its contract: the digits of a tenth of the number, and the last digit. The measure is the
+-- room for digits. Assumes nothing.
 use Prim.Native.Nat.{ℕ, _<_}
 use native.Mathlib.Omega.{arith}
 use borrow.Author.Needs.{needs}

@@ -1,5 +1,5 @@
--- `lines::put_bindings` meets its contract. The loop's invariant: the first i bindings have been put, at most 8 bytes each.
--- Assumes nothing.
+-- `lines::put_bindings` meets its contract. The loop's invariant: the first i bindings have been put, at most 8 bytes
+-- each. Assumes nothing.
 use Prim.Native.Nat.{_+_, _*_, _-_, _≤_}
 use native.Mathlib.Omega.{arith}
 use lib.ListN.{length}

@@ -1,5 +1,5 @@
--- `lines::put_lines` meets its contract. The loop's invariant: the first i lines have been put, at most 8 bytes for each
--- number of the result. Assumes nothing.
+-- `lines::put_lines` meets its contract. The loop's invariant: the first i lines have been put, at most 8 bytes for
+-- each number of the result. Assumes nothing.
 use mathlib.Core.Path.{_≡_, _∙_, ap}
 use Prim.Native.Nat.{_*_, _-_, _≤_}
 use native.Mathlib.Omega.{arith}

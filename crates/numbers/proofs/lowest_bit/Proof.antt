@@ -1,4 +1,5 @@
--- `numbers::lowest_bit` meets its contract: the count of the trailing zeros is below 64, and the lowest bit. Assumes nothing.
+-- `numbers::lowest_bit` meets its contract: the count of the trailing zeros is below 64, and the lowest bit.
+-- Assumes nothing.
 use native.Mathlib.Omega.{arith}
 use lib.Count.{trailing-le}
 use Rattle.numbers.proofs.Lowest.{trailing-lowest}

@@ -5,7 +5,8 @@ use lib.ListN.{length}
 use Rattle.numbers.specs.Numbers.{first}
 use Rattle.patterns.specs.Patterns.{variableCount, variableBroken, conditionWord, conditionBroken}
 use Rattle.patterns.specs.Checked.{patternUpTo, patternOf, firstBadVariable, firstBadCondition}
-use Rattle.patterns.proofs.Answers.{header-in-order, wholeLength, answer-short, answer-header, answer-length, answer-variable, answer-condition, answer-pattern}
+use Rattle.patterns.proofs.Answers.{header-in-order, wholeLength, answer-short, answer-header, answer-length}
+use Rattle.patterns.proofs.Answers.{answer-variable, answer-condition, answer-pattern}
 use borrow.Author.Needs.{needs}
 use Rattle.patterns.proofs.check_pattern.Statement.{statement}
 use Rattle.patterns.proofs.check_pattern.Tie as tie

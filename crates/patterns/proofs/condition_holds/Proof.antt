@@ -1,4 +1,5 @@
--- `patterns::condition_holds` tests a condition of whole numbers by comparing naturals, each raised by 2^31. Assumes nothing.
+-- `patterns::condition_holds` tests a condition of whole numbers by comparing naturals, each raised by 2^31.
+-- Assumes nothing.
 use mathlib.Core.Path.{_∙_, sym, ap}
 use borrow.Author.Needs.{needs}
 use Rattle.patterns.specs.Comparison.{raise}

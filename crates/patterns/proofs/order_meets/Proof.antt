@@ -1,5 +1,5 @@
--- `patterns::order_meets` reads in the table whether an order meets an operator: its rule is proved over the whole table.
--- Assumes nothing.
+-- `patterns::order_meets` reads in the table whether an order meets an operator: its rule is proved over the whole
+-- table. Assumes nothing.
 use borrow.Author.Needs.{needs}
 use Rattle.patterns.proofs.Comparison.{operators-rule}
 use Rattle.patterns.proofs.order_meets.Statement.{statement}

@@ -1,4 +1,5 @@
--- `slots::bind` meets its contract: count, state and the new binding's bytes, one write after the other. Assumes nothing.
+-- `slots::bind` meets its contract: count, state and the new binding's bytes, one write after the other.
+-- Assumes nothing.
 use Prim.Native.Nat.{_<_}
 use native.Mathlib.Omega.{arith}
 use borrow.Author.Needs.{needs}

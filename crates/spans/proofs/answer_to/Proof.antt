@@ -1,4 +1,5 @@
--- `spans::answer_to` meets its contract: it hands the pattern and the block that the input has to the pass. Assumes nothing.
+-- `spans::answer_to` meets its contract: it hands the pattern and the block that the input has to the pass.
+-- Assumes nothing.
 use lib.ListN.{length}
 use borrow.Author.Needs.{needs}
 use Rattle.spans.proofs.Program.{no-length, no-pattern, pass-called}

@@ -1,5 +1,5 @@
--- `starts::each_start` meets its contract: one start after another, none where nothing fires or from a gap, else each firing
--- variable in turn. Assumes nothing.
+-- `starts::each_start` meets its contract: one start after another, none where nothing fires or from a gap, else each
+-- firing variable in turn. Assumes nothing.
 use native.Mathlib.Omega.{arith}
 use borrow.Author.Needs.{needs}
 use mathlib.Core.Path.{_≡_, refl, sym, ap, _∙_}
@@ -12,7 +12,8 @@ use Rattle.starts.specs.Sinks.{sinkOf, noneYet}
 use Rattle.starts.specs.Skips.{OpenTo}
 use Rattle.starts.proofs.Masks.{read-bound, first-read}
 use Rattle.starts.proofs.Windows.{open-none, open-later}
-use Rattle.starts.proofs.Starts.{started-gap, started-none, start-firing, started-branch, Left, left-all, left-more, left-none}
+use Rattle.starts.proofs.Starts.{started-gap, started-none, start-firing, started-branch, Left, left-all}
+use Rattle.starts.proofs.Starts.{left-more, left-none}
 use Rattle.starts.proofs.each_start.Statement.{statement}
 use Rattle.starts.proofs.each_start.Tie as tie
 

@@ -1,5 +1,5 @@
--- `starts::firing_of` meets its contract. The loop's invariant: what is found so far and what the variables left will give
--- make the whole. Assumes nothing.
+-- `starts::firing_of` meets its contract. The loop's invariant: what is found so far and what the variables left will
+-- give make the whole. Assumes nothing.
 use native.Mathlib.Nat.{zero-mul}
 use native.Mathlib.Omega.{arith}
 use mathlib.Core.Path.{_≡_, sym, ap, _∙_}

@@ -19,7 +19,9 @@ abbrev μ-loop : tie.MeasureT-loop
 μ-loop block plan cans s j slot leave i₀ i = s .until - i
 
 -- one record more is passed
-passed-more : (fires : ℕ → ℕ) (j i : ℕ) → fires i ≡ 0 → ((k : ℕ) → j ≤ k → k < i → fires k ≡ 0) → (k : ℕ) → j ≤ k → k < i + 1 → fires k ≡ 0
+passed-more :
+    (fires : ℕ → ℕ) (j i : ℕ) → fires i ≡ 0 → ((k : ℕ) → j ≤ k → k < i → fires k ≡ 0) → (k : ℕ) → j ≤ k → k < i + 1
+    → fires k ≡ 0
 passed-more fires j i none passed k from below =
     ⊎-elim
     (λ e. ap fires e ∙ none)

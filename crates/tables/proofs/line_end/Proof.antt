@@ -1,4 +1,5 @@
--- `tables::line_end` meets its contract: the places passed are no line's end. The measure is what is left of the table. Assumes nothing.
+-- `tables::line_end` meets its contract: the places passed are no line's end. The measure is what is left of the table.
+-- Assumes nothing.
 use borrow.Author.Needs.{needs}
 use Prim.Native.Nat.{_≤_, _-_}
 use lib.ListN.{length}

@@ -1,4 +1,5 @@
--- `tables::next_word` meets its contract: the places passed are no spaces. The measure is what is left of the row. Assumes nothing.
+-- `tables::next_word` meets its contract: the places passed are no spaces. The measure is what is left of the row.
+-- Assumes nothing.
 use borrow.Author.Needs.{needs}
 use Prim.Native.Nat.{_-_, _+_}
 use lib.ListN.{length}

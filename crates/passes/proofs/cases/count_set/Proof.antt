@@ -1,5 +1,5 @@
--- `passes::cases::count_set` is safe and ends: the count is at most what was looked at. The measure is what is left of the
--- memory. Assumes nothing.
+-- `passes::cases::count_set` is safe and ends: the count is at most what was looked at. The measure is what is left of
+-- the memory. Assumes nothing.
 use borrow.Author.Needs.{needs}
 use Prim.Native.Nat.{_≤_, _-_}
 use lib.ListN.{length}
