@@ -55,28 +55,28 @@ settle-attribute-requires-2 c κs =
     let st = c .before .before .before .before .before in
     let a = st .args in
     let p = st .pre in
-    (record { sound = p .0; classed = p .1; variables = p .2; conditions = p .3; inside = rw (c .before .settle-attribute .ensures) (settled-inside (a .plan .now) (a .block .now) (a .i) (a .n) (a .c) 1 _); here = p .4 }, omega arith)
+    (record { sound = p .0; classed = p .1; variables = p .2; conditions = p .3; inside = rw (c .before .settle-attribute .ensures) (settled-inside (a .plan .now) (a .block .now) (a .i) (a .n) (a .c) _ _); here = p .4 }, omega arith)
 
 settle-attribute-requires-3 : tie.Need-settle-attribute-requires-3
 settle-attribute-requires-3 c κs =
     let st = c .before .before .before .before .before .before in
     let a = st .args in
     let p = st .pre in
-    (record { sound = p .0; classed = p .1; variables = p .2; conditions = p .3; inside = rw (c .settle-attribute2 .ensures) (settled-inside (a .plan .now) (a .block .now) (a .i) (a .n) (a .c) 0 _); here = p .4 }, omega arith)
+    (record { sound = p .0; classed = p .1; variables = p .2; conditions = p .3; inside = rw (c .settle-attribute2 .ensures) (settled-inside (a .plan .now) (a .block .now) (a .i) (a .n) (a .c) _ _); here = p .4 }, omega arith)
 
 settle-attribute-requires-4 : tie.Need-settle-attribute-requires-4
 settle-attribute-requires-4 c κs =
     let st = c .before .before .before .before .before .before .before in
     let a = st .args in
     let p = st .pre in
-    (record { sound = p .0; classed = p .1; variables = p .2; conditions = p .3; inside = rw (c .settle-attribute3 .ensures) (settled-inside (a .plan .now) (a .block .now) (a .i) (a .n) (a .c) 3 _); here = p .4 }, omega arith)
+    (record { sound = p .0; classed = p .1; variables = p .2; conditions = p .3; inside = rw (c .settle-attribute3 .ensures) (settled-inside (a .plan .now) (a .block .now) (a .i) (a .n) (a .c) _ _); here = p .4 }, omega arith)
 
 settle-both-requires : tie.Need-settle-both-requires
 settle-both-requires c κs =
     let st = c .before .before .before .before .before .before .before .before in
     let a = st .args in
     let p = st .pre in
-    record { sound = p .0; classed = p .1; variables = p .2; conditions = p .3; inside = rw (c .settle-attribute4 .ensures) (settled-inside (a .plan .now) (a .block .now) (a .i) (a .n) (a .c) 4 _); here = p .4 }
+    record { sound = p .0; classed = p .1; variables = p .2; conditions = p .3; inside = rw (c .settle-attribute4 .ensures) (settled-inside (a .plan .now) (a .block .now) (a .i) (a .n) (a .c) _ _); here = p .4 }
 
 returns-2 : tie.Need-returns-2
 unfolding recordAt

@@ -1,9 +1,9 @@
 -- `firing::fails` meets its contract: the word tells of each order. Assumes nothing.
 use mathlib.Core.Path.{_∙_, ap}
-use Prim.Native.Nat.{ℕ, _+_, _/_, _%_, _^_}
+use Prim.Native.Nat.{ℕ, _+_, _/_, _%_, _^_, _<_}
 use native.Mathlib.Omega.{arith}
 use lib.IntN.{pos}
-use Rattle.patterns.specs.Comparison.{orderOf}
+use Rattle.patterns.specs.Comparison.{orders, orderOf}
 use Rattle.patterns.proofs.Comparison.{order-bound}
 use Rattle.firing.specs.Plan.{firstOrder}
 use borrow.Author.Needs.{needs}
@@ -14,10 +14,10 @@ order-requires : tie.Need-order-requires
 order-requires c κs = search needs
 
 add-result : tie.Need-add-result
-add-result c = let a = c .before .args in omega (arith, c .order .ensures, order-bound (pos (a .x)) (pos (a .y)))
+add-result c = let few : c .order .result < orders = rw (c .order .ensures) (order-bound _ _) in omega arith
 
 shr-result : tie.Need-shr-result
-shr-result c = let a = c .before .args in omega (arith, c .order .ensures, order-bound (pos (a .x)) (pos (a .y)))
+shr-result c = let few : c .order .result < orders = rw (c .order .ensures) (order-bound _ _) in omega arith
 
 returns : tie.Need-returns
 returns c =
