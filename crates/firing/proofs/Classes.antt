@@ -70,18 +70,18 @@ abbrev byConstant : Bool → ℕ → Bool
 byConstant own attribute =
     byKinds (implies (eqb attribute classAttribute) own) (λ kind. eqb attribute kind && not (eqb attribute classAttribute)) own
 
-constants-hold : every (byConstant true) 5 ≡ true
+constants-hold : every (byConstant true) bothSides ≡ true
 unfolding every
 constants-hold = refl
 
-constants-fail : every (λ attribute. not (byConstant false attribute)) 5 ≡ true
+constants-fail : every (λ attribute. not (byConstant false attribute)) bothSides ≡ true
 unfolding every
 constants-fail = refl
 
 by-constant : (attribute : ℕ) → attribute ≤ lastAttribute → (own : Bool) → byConstant own attribute ≡ own
-by-constant attribute h true = every-true (byConstant true) 5 constants-hold attribute (omega arith)
+by-constant attribute h true = every-true (byConstant true) bothSides constants-hold attribute (omega arith)
 by-constant attribute h false =
-    not-true (byConstant false attribute) (every-true (λ a. not (byConstant false a)) 5 constants-fail attribute (omega arith))
+    not-true (byConstant false attribute) (every-true (λ a. not (byConstant false a)) bothSides constants-fail attribute (omega arith))
 
 -- the kinds of a condition of form 1
 by-sides : (same own : Bool) → (same ≡ false → own ≡ true) → byKinds true (λ kind. eqb kind bothSides && same) own ≡ own
