@@ -135,7 +135,7 @@ module _ (p : Pattern) (v : ℕ) (inside : v < p .n) where
         (λ after. clash e (c .later w l after))
         (λ before. c .earlier u k (omega arith)))
 
-  -- ## An unbound variable of the current set
+  -- ## A variable that opens
 
   module _ (s : ℕ) (small : s < 2 ^ p .n) where
     open-chosen : isState p s && opens p (stateOf s) v ≡ true → Chosen p v s false

@@ -105,7 +105,7 @@ fn is_state(p: Pattern, s: u64) -> bool
     true
 }
 
-// Whether v leaves state s as an unbound variable of the current set.
+// Whether v opens from state s (Rule 4.2).
 fn is_open(p: Pattern, s: u64, v: usize) -> bool
     requires { ⌜ (p .n ≤ mostVariables) × (v < p .n) ⌝ }
     ensures { λ r. ⌜ r ≡ opens p (stateOf s) v ⌝ }

@@ -91,7 +91,6 @@ low-signed word =
     (λ l. rw (lt-ltb word (2 ^ 31) l, signed) (natural word))
     (λ l. rw (le-ltb word (2 ^ 31) l, signed) (negative (2 ^ 32 - 1 - word) (omega arith)))
 
--- the constant is signed beside amount
 pub constant-signed : (attribute constant : ℕ) → attribute ≡ 4 → constantValue attribute constant ≡ signed constant
 unfolding constantValue
 constant-signed attribute constant e = rw (eq-eqb _ _ e, constantValue)
@@ -120,7 +119,6 @@ low-value attribute r =
     (λ h. rw (e, f, g, h, value) (natural _))
     (λ h. rw (e, f, g, h, value) (low-signed (r .amount))))))
 
--- form 0 compares with the constant
 pub compared-constant :
     (k : Condition) (second : Record) → k .form ≡ 0 → comparedWith k second ≡ constantValue (k .attribute) (k .constant)
 unfolding comparedWith

@@ -64,7 +64,6 @@ module _ (bytes : List ℕ) where
         go (yes e) = omega (arith, ap (timeAt (blockIn bytes)) e)
         go (no n) = omega (arith, times-rise i j (omega arith) h)
 
-    -- A block has 0 to 4,096 records.
     pub few-records : length (blockIn bytes) ≤ mostRecords
     few-records = let c = block-length in omega (arith, ordered .few)
 
@@ -78,7 +77,7 @@ pub record RefusedFrom (least most : ℕ) (answer : Answer) : Type 0 where
   pub readings : answer .readings ≡ 0
   pub peak : answer .peak ≡ 0
 
--- Checking a pattern gives 1 to 4.
+-- no refusal of a pattern has a number above 4
 pub pattern-refusals : (bytes : List ℕ) → patternAnswer bytes .code ≤ 4
 pattern-refusals bytes =
     by-order (length bytes) headerBytes

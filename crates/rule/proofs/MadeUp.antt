@@ -51,7 +51,7 @@ module _ (pattern block : List ℕ) (limit lentWork lentResult : ℕ) (a : Answe
       q .readings
       ∙ ap length (one-report (patternIn pattern) (blockIn block) (length (blockIn block)) (q .lines) l (q .report) r)
 
-  -- a made-up peak or readings count: any that differs from the right one
+  -- counts of readings or a peak other than the right ones
   pub made-up-counts : (readings peak : ℕ) (otherWork otherResult : List ℕ)
       → ¬ ((readings ≡ a .readings) × (peak ≡ a .peak))
       → ForwardCall pattern block limit lentWork lentResult a work result

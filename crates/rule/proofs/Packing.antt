@@ -102,7 +102,7 @@ lines-back (suc n) (x ∷ l) spare h f g =
     ∙ line-back n x (pack l ++ replicate spare 0) (f x (List·Memᴰ·head refl)) (g x (List·Memᴰ·head refl))
     ∙ ap (λ m. x ∷ m) (lines-back n l spare (omega (arith, ap length e, length-append (packBindings (x .reading)) (pack l ++ replicate spare 0))) (λ y m. f y (List·Memᴰ·tail m)) (λ y m. g y (List·Memᴰ·tail m)))
 
--- The records bound and the packed numbers that tell of them stand for each other exactly. Unused numbers are 0.
+-- what is packed can be read back, zeros behind it or not
 pub unpack-pack : (l : List Line) (spare : ℕ) → AllFit l → Marked l → unpack (pack l ++ replicate spare 0) ≡ l
 unfolding unpack
 unpack-pack l spare f g = lines-back (length (pack l ++ replicate spare 0)) l spare (omega arith) f g

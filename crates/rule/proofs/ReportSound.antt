@@ -40,13 +40,13 @@ pub record Choice (p : Pattern) (r : Reading) (chosen : ℕ → ℕ) : Type 0 wh
 
 -- What a reported reading has.
 pub record Sound (p : Pattern) (B : Block) (r : Reading) : Type 0 where
-  -- A substitution contains exactly one binding for each singleton variable, but one or more for each group variable;
+  -- every variable is bound, and one that is no group variable once;
   pub once : (v : ℕ) → v < p .n → isGroup p v ≡ false → length (bindingsOf v r) ≡ 1
   pub oneOrMore : (v : ℕ) → v < p .n → 1 ≤ length (bindingsOf v r)
-  -- all event variables are contained in the pattern,
+  -- nothing else is,
   pub variable : (b : Binding) → List·Memᴰ b r → b .variable < p .n
-  -- and all events in the block, and distinct: what is bound before b, and so stands behind it, is of an
-  -- earlier record.
+  -- and to events of the block, no two bindings to one: what is bound before b, and so stands behind it, is of an earlier
+  -- record.
   pub event : (b : Binding) → List·Memᴰ b r → Event B (b .at)
   pub distinct :
       (t : Reading) (b : Binding) (s : Reading) → r ≡ t ++ (b ∷ s) → (a : Binding) → List·Memᴰ a s → a .at < b .at
@@ -60,15 +60,16 @@ pub record Sound (p : Pattern) (B : Block) (r : Reading) : Type 0 where
       → (a b : Binding) → List·Memᴰ a r → List·Memᴰ b r → a .variable ≡ k .variable → b .variable ≡ k .variable2
       → (k .variable ≡ k .variable2 → a ≡ b)
       → holds k (recordIn B (a .at)) (recordIn B (b .at)) ≡ true
-  -- Condition 1, as the paper has it: every condition holds of every choice of one binding for each variable.
+  -- Condition 1, in the paper's form: with one binding chosen of each variable, however they are chosen, all conditions
+  -- hold.
   pub choice : (chosen : ℕ → ℕ) → Choice p r chosen → (k : Condition) → List·Memᴰ k (conditions p)
       → holds k (recordIn B (chosen (k .variable))) (recordIn B (chosen (k .variable2))) ≡ true
-  -- Condition 2: all events of a set occur strictly before all events of a later set.
+  -- Condition 2: of two sets, the earlier one's events have the smaller times.
   pub order : (a b : Binding) → List·Memᴰ a r → List·Memᴰ b r → setOf p (a .variable) < setOf p (b .variable)
       → timeAt B (a .at) < timeAt B (b .at)
   -- Condition 3: no two events are further apart than the duration.
   pub duration : (a b : Binding) → List·Memᴰ a r → List·Memᴰ b r → timeAt B (b .at) ≤ timeAt B (a .at) + p .duration
-  -- No span has events on both sides of a gap: every record from the first to the last is an event.
+  -- a reading does not reach over a gap: each record from its first to its last is an event
   pub noGap : (i : ℕ) → startOf r ≤ i → i ≤ lastOf r → Event B i
   pub within : (b : Binding) → List·Memᴰ b r → (startOf r ≤ b .at) × (b .at ≤ lastOf r)
 

@@ -71,7 +71,7 @@ module _ (p : Pattern) (B : Block) (checked : CheckedInputs p B) (short : (i : �
   pub report-back : (spare : ℕ) → unpack (pack l ++ replicate spare 0) ≡ l
   report-back spare = unpack-pack l spare report-fits report-marked
 
--- two reports that differ, of any patterns and blocks, never pack to the same numbers
+-- of any patterns and blocks, different reports have different numbers
 pub reports-apart : (p q : Pattern) (B C : Block) → CheckedInputs p B → CheckedInputs q C → ((i : ℕ) → ¬ TooLong p B i)
     → ((i : ℕ) → ¬ TooLong q C i)
     → (J K : ℕ) (l m : List Line) → Report p B J l → Report q C K m → (spare other : ℕ)

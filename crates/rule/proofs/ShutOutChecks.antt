@@ -70,7 +70,7 @@ withMeasured used readings a =
     record { code = a .code; place = a .place; used = used; readings = readings; peak = a .peak }
 
 module _ (pattern block : List ℕ) (a : Answer) where
-  -- Both are counts over the reading rule; each stops at 4,294,967,295.
+  -- used and readings are counted by the rule, and stop where rule 7.7 says
   pub measure-counted : MeasureCall pattern block a → a .code ≡ 0
       → (l : List Line) → Report (patternIn pattern) (blockIn block) (length (blockIn block)) l
       → (a .readings ≡ min (length l) mostCounted) × (a .used ≡ min (length (pack l)) mostCounted)

@@ -121,7 +121,7 @@ module _ (pattern block : List ℕ) (lent : ℕ) (a : Answer) (result : List ℕ
       q .readings
       ∙ ap length (one-report (patternIn pattern) (blockIn block) (length (blockIn block)) (q .lines) l (q .report) r)
 
-  -- a made-up peak or readings count: any that differs from the right one
+  -- counts of readings or a peak other than the right ones
   pub made-up-counts : (readings peak : ℕ) (otherResult : List ℕ) → ¬ ((readings ≡ a .readings) × (peak ≡ a .peak))
       → StartByStartCall pattern block lent a result
       → ¬ StartByStartCall pattern block lent (withCounts readings peak a) otherResult
