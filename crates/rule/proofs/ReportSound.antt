@@ -45,8 +45,8 @@ pub record Sound (p : Pattern) (B : Block) (r : Reading) : Type 0 where
   pub oneOrMore : (v : ℕ) → v < p .n → 1 ≤ length (bindingsOf v r)
   -- nothing else is,
   pub variable : (b : Binding) → List·Memᴰ b r → b .variable < p .n
-  -- and to events of the block, no two bindings to one: what is bound before b, and so stands behind it, is of an earlier
-  -- record.
+  -- and to events of the block, no two bindings to one: what is bound before b, and so stands behind it, is of an
+  -- earlier record.
   pub event : (b : Binding) → List·Memᴰ b r → Event B (b .at)
   pub distinct :
       (t : Reading) (b : Binding) (s : Reading) → r ≡ t ++ (b ∷ s) → (a : Binding) → List·Memᴰ a s → a .at < b .at
