@@ -422,14 +422,65 @@ RULE = [
     *(case(20, plain((1, 0), duration=0, conditions=(condition(0, 3, 3, second=(0, 4)),)), [event(10, slot=0x7FFFFFFF, amount=a)]) for a in EDGES),
 ]
 
-TABLE = ROWS + LENT + REFUSED + LIVE + RULE
+# The examples that the rules give beside their clauses: caption, pattern, records, and the lines that the rules state
+BY_TYPE = (condition(0, 1, 0, 0), condition(1, 1, 0, 1))
+ONE_CORE = plain((1, 0), (1, 1), conditions=BY_TYPE + (condition(0, 0, 0, second=(1, 0)),))
+EXAMPLES = [
+    (
+        "4.2, a merged state: 0 loops until 1 is bound",
+        plain((1, 1), (2, 1), conditions=BY_TYPE),
+        [event(10 + i, event_type=kind) for i, kind in enumerate((0, 0, 1, 0, 1))],
+        ["2 0@0 0@1 1@2 1@4", "2 0@1 1@2 1@4", "2 0@3 1@4"],
+    ),
+    (
+        "5.3, a loop: an event that fails with one binding",
+        ONE_CORE,
+        [event(10, 2, 0), event(11, 2, 1), event(12, 3, 1), event(13, 2, 1)],
+        ["2 0@0 1@1 1@3"],
+    ),
+    ("5.3, a loop: two bindings that no event agrees with", ONE_CORE, [event(10, 2, 1), event(11, 3, 1), event(12, 2, 0)], []),
+    (
+        "5.3, one variable on both sides",
+        plain((1, 1), conditions=(condition(0, 3, 0, second=(0, 4)),)),
+        [event(10, slot=3, amount=3), event(11, slot=4, amount=4), event(12, slot=4, amount=3)],
+        ["2 0@0 0@1", "2 0@1"],
+    ),
+    (
+        "5.5, an event that must be bound",
+        plain((1, 0), (1, 1), conditions=BY_TYPE),
+        [event(10), event(11, event_type=1), event(12, event_type=1)],
+        ["2 0@0 1@1 1@2"],
+    ),
+    ("5.5, two ways", plain((1, 1), (2, 0)), [event(10), event(11)], ["2 0@0 1@1"]),
+    ("5.8, a gap past the window", ONE, [event(10), gap(500)], ["3 0@0"]),
+]
+EXAMPLE_ROWS = [
+    row
+    for caption, pattern, records, _ in EXAMPLES
+    for row in (f"# Rule {caption}", case(40, pattern, records))
+]
+
+TABLE = ROWS + EXAMPLE_ROWS + LENT + REFUSED + LIVE + RULE
 
 # ---- Writing ----
+
+
+def printed(numbers):
+    """The lines of packed numbers, as the match program writes them (Rule 9.2)."""
+    lines = []
+    while numbers:
+        mark, count = divmod(numbers[0], 4096)
+        lines.append(" ".join([str(mark)] + [f"{n >> 12}@{n % 4096}" for n in numbers[1 : count + 1]]))
+        numbers = numbers[count + 1 :]
+    return lines
 
 
 def write(folder):
     lines = [lines_of(row) for row in TABLE]
     assert answers(5, 800, 28, bytes.fromhex(BENCH), bytes.fromhex(BENCH_RECORDS))[0] == ((0, 0, 14, 3, 5), P1)
+    for caption, pattern, records, stated in EXAMPLES:
+        numbers = answers(MOST_LIVE, 40960, 40, bytes.fromhex(joined(pattern)), bytes.fromhex(joined("".join(records))))[0][1]
+        assert printed(numbers) == stated, f"the rules state otherwise: {caption}"
     codes = {told[0].split(" ")[1] for told in lines if len(told) == 3}
     assert codes == {str(code) for code in range(12)}, "the forward pass gives each refusal 1 to 11, and success"
     table = "".join(row + "\n" for row in TABLE)
