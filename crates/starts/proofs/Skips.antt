@@ -19,14 +19,15 @@ use Rattle.rule.specs.Starts.{Found, withBinding, inTurn, skipUntil}
 use Rattle.rule.proofs.SkipBranch.{next-closes, next-takes, next-over}
 use Rattle.slots.specs.Slots.{slotBytes, countIn, heldIn, grow}
 use Rattle.slots.proofs.Slots.{length-heldIn}
-use Rattle.starts.specs.declared.Start.{Start}
-use Rattle.starts.specs.declared.Fire.{Fire}
+use Rattle.reach.specs.declared.Start.{Start}
+use Rattle.reach.specs.declared.Fire.{Fire}
 use Rattle.starts.specs.declared.Counts.{Counts}
 use Rattle.starts.specs.Sinks.{Sink, sinkOf, emit, emits}
-use Rattle.starts.specs.Skips.{Reads, Ready, Taking, Firing, NextBy, Of, Closed, Skipped, branchOver, Branched}
+use Rattle.reach.specs.Readings.{Reads, Ready, NextBy, Of}
+use Rattle.starts.specs.Skips.{Taking, Firing, Closed, Skipped, branchOver, Branched}
 use Rattle.starts.proofs.Sinks.{emits-append, sink-same}
-use Rattle.starts.proofs.Readings.{next-is, firing-is, firing-bound, grown-bindings, grown-reads}
-use Rattle.starts.proofs.MaskInTurn.{turn-none, turn-lowest, mask-turn, low-bits, rest-known}
+use Rattle.reach.proofs.Readings.{next-is, firing-is, firing-bound, grown-bindings, grown-reads}
+use Rattle.reach.proofs.MaskInTurn.{turn-none, turn-lowest, mask-turn, low-bits, rest-known}
 
 -- the same reading, held before a later record
 pub reads-later : (n j i : ℕ) (slot : List ℕ) → j ≤ i → Reads n j slot → Reads n i slot

@@ -16,13 +16,14 @@ use Rattle.rule.specs.Starts.{until, markOf, withBinding, skipUntil, startFound
 use Rattle.rule.proofs.SkipBranch.{start-event, found-end, found-all, found-first}
 use Rattle.rule.proofs.SkipBranch.{start-gap as found-gap}
 use Rattle.slots.specs.Slots.{slotBytes, countIn, heldIn}
-use Rattle.starts.specs.declared.Start.{Start}
+use Rattle.reach.specs.declared.Start.{Start}
 use Rattle.starts.specs.Sinks.{Sink, emits}
-use Rattle.starts.specs.Skips.{firingBy, Usable, Firing, Of, Branched, branchOver, StartIs, AllStarted}
+use Rattle.reach.specs.Readings.{firingBy, Usable, Of}
+use Rattle.starts.specs.Skips.{Firing, Branched, branchOver, StartIs, AllStarted}
 use Rattle.starts.proofs.Sinks.{emits-append}
-use Rattle.starts.proofs.Readings.{nothing, firing-begins, firing-bound, empty-reads}
+use Rattle.reach.proofs.Readings.{nothing, firing-begins, firing-bound, empty-reads}
 use Rattle.starts.proofs.Windows.{is-event, is-gap}
-use Rattle.starts.proofs.MaskInTurn.{turn-none, mask-turn, low-bits}
+use Rattle.reach.proofs.MaskInTurn.{turn-none, mask-turn, low-bits}
 use Rattle.starts.proofs.Skips.{few-bits}
 
 -- what is found from record i

@@ -16,7 +16,8 @@ ghost use Rattle.slots.specs.Slots.{slotBytes, countIn, heldIn};
 ghost use Rattle.firing.specs.Plan.{planRoom};
 ghost use Rattle.firing.specs.Firing.{Fit};
 ghost use Rattle.starts.specs.Sinks.{sinkOf, sum as sumTo, emit, emits, noneYet, answerBy, leftBy, measureBy};
-ghost use Rattle.starts.specs.Skips.{leavingBy, agreeingBy, Cans, Reads, Usable, Ready, Taking, Firing, NextBy};
+ghost use Rattle.reach.specs.Readings.{Cans, Reads, Usable};
+ghost use Rattle.starts.specs.Skips.{Taking, Firing};
 ghost use Rattle.starts.specs.Skips.{Closed, Skipped, Branched, OpenTo, StartIs, AllStarted};
 
 // The number of no record.
@@ -28,26 +29,11 @@ const MOST_COUNTED: usize = 4294967295;
 // Where counts stop: beyond any room.
 const STOP: usize = 18446744073709551615;
 
-// What one start fixes: how many variables and conditions there are, the record at which its readings close,
-// and their mark.
-pub struct Start {
-    pub n: usize,
-    pub c: usize,
-    pub until: usize,
-    pub mark: u8,
-}
-
 // The numbers and readings so far, and the least record at which a reading would take a binding too many.
 pub struct Counts {
     pub used: usize,
     pub readings: usize,
     pub least: usize,
-}
-
-// A record that fires, and the variables that fire there.
-pub struct Fire {
-    pub at: usize,
-    pub variables: u64,
 }
 
 // ## What is written and counted
@@ -90,7 +76,7 @@ fn is_full(state: u64, n: usize) -> bool
 }
 
 // A reading closes: it is reported where its state is full.
-fn close(result: &mut [u8], slot: &[u8], s: Start, counts: Counts) -> Counts
+fn close(result: &mut [u8], slot: &[u8], s: reach::Start, counts: Counts) -> Counts
     requires { ⌜ (Reads (s .n) (s .until) (now slot)) × (s .n ≤ mostVariables) × (s .mark < 16) ⌝ }
     ensures { λ o. ⌜ Closed s (now (slot .entry)) (sinkOf (now (result .entry)) counts)
         (sinkOf (now (result .exit)) o) ⌝ }
@@ -118,110 +104,7 @@ fn note_over(counts: Counts, j: usize) -> Counts
     }
 }
 
-// ## Which variables fire
-
-// For each record no variable.
-fn no_cans() -> [u16; records::MOST_RECORDS]
-    ensures { λ r. ⌜ r ≡ replicate mostRecords 0 ⌝ }
-{
-    [0; records::MOST_RECORDS]
-}
-
-// For each record the variables that can fire there by its own conditions, settled once a call and not once a reading.
-fn all_can(
-    plan: &[u64; firing::PLAN_ROOM],
-    n: usize,
-    c: usize,
-    block: &[u8],
-) -> [u16; records::MOST_RECORDS]
-    requires { ⌜ Usable (now plan) (now block) n c ⌝ }
-    ensures { λ r. ⌜ Cans (now (plan .entry)) (now (block .entry)) n c r ⌝ }
-{
-    let mut cans = no_cans();
-    let count = block.len() / records::RECORD_BYTES;
-    let mut i = 0;
-    while i < count {
-        cans[i] = firing::can_fire(plan, n, c, block, i) as u16;
-        i += 1;
-    }
-    cans
-}
-
-// The variables that leave a state.
-fn leaving(plan: &[u64; firing::PLAN_ROOM], n: usize, state: u64) -> u64
-    requires { ⌜ (length (now plan) ≡ planRoom) × (n ≤ mostVariables) ⌝ }
-    ensures { λ r. ⌜ r ≡ leavingBy (now (plan .entry)) n state ⌝ }
-{
-    let mut leave = 0;
-    let mut v = 0;
-    while v < n {
-        leave = leave + numbers::weight_if(firing::leaves(plan, state, v), v);
-        v += 1;
-    }
-    leave
-}
-
-// Of the variables asked, which can fire at record i and leave the reading's state, those that fire.
-fn firing_of(
-    block: &[u8],
-    plan: &[u64; firing::PLAN_ROOM],
-    i: usize,
-    asked: u64,
-    slot: &[u8],
-) -> u64
-    requires { ⌜ (asked < 2 ^ mostVariables) × Fit (now plan) (now block) i (now slot) ⌝ }
-    ensures { λ r. ⌜ r ≡ agreeingBy (now (plan .entry)) (now (block .entry)) i asked (heldIn (now (slot .entry))) ⌝ }
-{
-    let mut firing = 0;
-    let mut rest = asked;
-    while rest != 0 {
-        let v = numbers::lowest_bit(rest);
-        rest = numbers::without_bit(rest, v);
-        if !firing::joins_hold(plan, block, i, v, slot) {
-            continue;
-        }
-        firing = firing + numbers::weight_if(firing::is_later(plan, block, i, v, slot), v);
-    }
-    firing
-}
-
 // ## Skip and branch
-
-// Skips to the next record from j on that fires; to the record at which the reading closes, where none does.
-fn next_fire(
-    block: &[u8],
-    plan: &[u64; firing::PLAN_ROOM],
-    cans: &[u16; records::MOST_RECORDS],
-    s: Start,
-    j: usize,
-    slot: &[u8],
-) -> Fire
-    requires { ⌜ (Ready (now plan) (now block) s (now slot) j)
-        × Cans (now plan) (now block) (s .n) (s .c) (now cans) ⌝ }
-    ensures { λ f. ⌜ NextBy (now (plan .entry)) (now (block .entry)) s (now (slot .entry)) j f ⌝ }
-{
-    let leave = leaving(plan, s.n, slots::state_of(slot));
-    let mut i = j;
-    while i < s.until {
-        let asked = cans[i] as u64 & leave;
-        if asked == 0 {
-            i += 1;
-            continue;
-        }
-        let firing = firing_of(block, plan, i, asked, slot);
-        if firing != 0 {
-            return Fire {
-                at: i,
-                variables: firing,
-            };
-        }
-        i += 1;
-    }
-    Fire {
-        at: i,
-        variables: 0,
-    }
-}
 
 // From a reading that binds variable v to record j too: on to the next record that fires.
 fn skip(
@@ -231,7 +114,7 @@ fn skip(
     slot: slots::Slot,
     j: usize,
     v: usize,
-    s: Start,
+    s: reach::Start,
     result: &mut [u8],
     counts: Counts,
 ) -> Counts
@@ -242,7 +125,7 @@ fn skip(
 {
     let mut bytes = slot.bytes;
     slots::bind(&mut bytes, j, v);
-    let fire = next_fire(block, plan, cans, s, j + 1, &bytes);
+    let fire = reach::next_fire(block, plan, cans, s, j + 1, &bytes);
     if fire.at == s.until {
         return close(result, &bytes, s, counts);
     }
@@ -270,7 +153,7 @@ fn branch(
     slot: slots::Slot,
     j: usize,
     firing: u64,
-    s: Start,
+    s: reach::Start,
     result: &mut [u8],
     counts: Counts,
 ) -> Counts
@@ -309,7 +192,14 @@ fn larger(a: usize, b: usize) -> usize
 }
 
 // What record i fixes as the first of a reading; no record before `opened` closes it.
-fn start_at(block: &[u8], n: usize, c: usize, duration: u64, i: usize, opened: usize) -> Start
+fn start_at(
+    block: &[u8],
+    n: usize,
+    c: usize,
+    duration: u64,
+    i: usize,
+    opened: usize,
+) -> reach::Start
     requires { ⌜ (i < recordCount (now block)) × (opened ≤ recordCount (now block))
         × OpenTo (now block) duration i opened ⌝ }
     ensures { λ s. ⌜ StartIs (now (block .entry)) n c duration i s ⌝ }
@@ -320,7 +210,7 @@ fn start_at(block: &[u8], n: usize, c: usize, duration: u64, i: usize, opened: u
     while k < count {
         let r = records::unpack(block, k);
         if r.kind != records::EVENT {
-            return Start {
+            return reach::Start {
                 n,
                 c,
                 until: k,
@@ -328,7 +218,7 @@ fn start_at(block: &[u8], n: usize, c: usize, duration: u64, i: usize, opened: u
             };
         }
         if is_past(first, duration, r.time) {
-            return Start {
+            return reach::Start {
                 n,
                 c,
                 until: k,
@@ -337,7 +227,7 @@ fn start_at(block: &[u8], n: usize, c: usize, duration: u64, i: usize, opened: u
         }
         k += 1;
     }
-    Start {
+    reach::Start {
         n,
         c,
         until: count,
@@ -365,8 +255,8 @@ fn each_start(
         readings: 0,
         least: NO_RECORD,
     };
-    let cans = all_can(plan, n, c, block);
-    let first = leaving(plan, n, 0);
+    let cans = reach::all_can(plan, n, c, block);
+    let first = reach::leaving(plan, n, 0);
     let empty = slots::empty_slot();
     let none = slots::Slot { bytes: empty };
     let count = block.len() / records::RECORD_BYTES;

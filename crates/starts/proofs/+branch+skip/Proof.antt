@@ -7,7 +7,7 @@ use mathlib.Core.Path.{_≡_, refl, _∙_}
 use lib.ListN.{length}
 use Rattle.starts.specs.Sinks.{Sink, sinkOf}
 use Rattle.starts.specs.Skips.{Firing, Branched}
-use Rattle.starts.proofs.MaskInTurn.{rest-less}
+use Rattle.reach.proofs.MaskInTurn.{rest-less}
 use Rattle.starts.proofs.Skips.{branch-done, lowest-taking, branch-takes, rest-firing, grown-ready, grown-closes}
 use Rattle.starts.proofs.Skips.{skip-closes, skip-notes, next-firing, skip-branches}
 use borrow.Fn.Kinds.{In}
@@ -23,7 +23,7 @@ use Rattle.starts.proofs.skip.Reads as skip
 use Rattle.starts.proofs.skip.Kinds as skip-kinds
 use Rattle.starts.proofs.+branch+skip.Lts-skip as skip-lts
 use Rattle.starts.proofs.close.Reads as close-reads
-use Rattle.starts.proofs.next_fire.Reads as next-fire-reads
+use Rattle.reach.proofs.next_fire.Reads as next-fire-reads
 use Rattle.starts.proofs.note_over.Reads as note-over-reads
 use Rattle.starts.proofs.+branch+skip.{statement}
 use Rattle.starts.proofs.+branch+skip.Tie.{close}

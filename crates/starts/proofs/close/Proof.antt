@@ -5,7 +5,7 @@ use Rattle.numbers.specs.Bits.{within}
 use Rattle.rule.proofs.SkipBranch.{close-full, close-part}
 use Rattle.slots.specs.Slots.{heldIn}
 use Rattle.starts.specs.Sinks.{sinkOf, emits}
-use Rattle.starts.proofs.Readings.{full-is}
+use Rattle.reach.proofs.Readings.{full-is}
 use borrow.Author.Needs.{needs}
 use Rattle.starts.proofs.close.Statement.{statement}
 use Rattle.starts.proofs.close.Tie as tie

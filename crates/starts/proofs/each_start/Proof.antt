@@ -10,7 +10,7 @@ use Rattle.records.specs.declared.Record.{Record}
 use Rattle.records.specs.Records.{recordCount}
 use Rattle.starts.specs.Sinks.{sinkOf, noneYet}
 use Rattle.starts.specs.Skips.{OpenTo}
-use Rattle.starts.proofs.Masks.{read-bound, first-read}
+use Rattle.reach.proofs.Masks.{read-bound, first-read}
 use Rattle.starts.proofs.Windows.{open-none, open-later}
 use Rattle.starts.proofs.Starts.{started-gap, started-none, start-firing, started-branch, Left, left-all}
 use Rattle.starts.proofs.Starts.{left-more, left-none}

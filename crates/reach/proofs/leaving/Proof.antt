@@ -1,4 +1,4 @@
--- `starts::leaving` meets its contract: the mask of the variables that leave, by one test a variable. Assumes nothing.
+-- `reach::leaving` meets its contract: the mask of the variables that leave, by one test a variable. Assumes nothing.
 use native.Mathlib.Omega.{arith}
 use mathlib.Core.Path.{_≡_, sym, ap, ap₂, _∙_}
 use mathlib.Core.Bool.{Bool}
@@ -9,10 +9,10 @@ use Rattle.numbers.specs.Bits.{mask}
 use Rattle.numbers.proofs.Bits.{mask-none, mask-more, mask-bound}
 use Rattle.patterns.specs.Patterns.{mostVariables}
 use Rattle.firing.specs.Firing.{leavesBy}
-use Rattle.starts.specs.Skips.{leavingBy}
+use Rattle.reach.specs.Readings.{leavingBy}
 use borrow.Author.Needs.{needs}
-use Rattle.starts.proofs.leaving.Statement.{statement}
-use Rattle.starts.proofs.leaving.Tie as tie
+use Rattle.reach.proofs.leaving.Statement.{statement}
+use Rattle.reach.proofs.leaving.Tie as tie
 
 abbrev Inv-loop : tie.InvT-loop
 Inv-loop plan n state leave₀ v₀ leave v = (v ≤ n) × (leave ≡ mask (leavesBy plan state) v)

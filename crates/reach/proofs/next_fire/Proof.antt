@@ -1,16 +1,16 @@
--- `starts::next_fire` meets its contract: no record before the one that it gives fires a step. Assumes nothing.
+-- `reach::next_fire` meets its contract: no record before the one that it gives fires a step. Assumes nothing.
 use native.Mathlib.Omega.{arith}
 use native.Mathlib.Nat.{eq-or-lt-of-le}
 use mathlib.Core.Path.{_≡_, sym, ap, _∙_}
 use mathlib.Core.Logic.{⊎-elim}
 use Prim.Native.Nat.{ℕ, _+_, _-_, _≤_, _<_}
 use Rattle.slots.specs.Slots.{heldIn}
-use Rattle.starts.specs.Skips.{firingBy, leavingBy}
-use Rattle.starts.proofs.Readings.{fit}
-use Rattle.starts.proofs.Masks.{read-bound, allowed-read, firing-read, none-read}
+use Rattle.reach.specs.Readings.{firingBy, leavingBy}
+use Rattle.reach.proofs.Readings.{fit}
+use Rattle.reach.proofs.Masks.{read-bound, allowed-read, firing-read, none-read}
 use borrow.Author.Needs.{needs}
-use Rattle.starts.proofs.next_fire.Statement.{statement}
-use Rattle.starts.proofs.next_fire.Tie as tie
+use Rattle.reach.proofs.next_fire.Statement.{statement}
+use Rattle.reach.proofs.next_fire.Tie as tie
 
 abbrev Inv-loop : tie.InvT-loop
 Inv-loop block plan cans s j slot leave i₀ i = (j ≤ i) × (i ≤ s .until) × (leave ≡ leavingBy plan (s .n) (heldIn slot .state)) × ((k : ℕ) → j ≤ k → k < i → firingBy plan block (s .n) (s .c) k (heldIn slot) ≡ 0)

@@ -1,4 +1,4 @@
--- `starts::all_can` meets its contract. The loop's invariant: the records passed are settled. Assumes nothing.
+-- `reach::all_can` meets its contract. The loop's invariant: the records passed are settled. Assumes nothing.
 use native.Mathlib.Omega.{arith}
 use mathlib.Core.Path.{_≡_, refl, ap, _∙_}
 use Prim.Native.Nat.{ℕ, _-_, _≤_, _<_}
@@ -8,10 +8,10 @@ use Rattle.records.specs.Records.{recordCount}
 use Rattle.records.specs.Blocks.{mostRecords}
 use Rattle.patterns.specs.Patterns.{mostVariables}
 use Rattle.firing.specs.Firing.{canBy}
-use Rattle.starts.proofs.Masks.{cans-more}
+use Rattle.reach.proofs.Masks.{cans-more}
 use borrow.Author.Needs.{needs}
-use Rattle.starts.proofs.all_can.Statement.{statement}
-use Rattle.starts.proofs.all_can.Tie as tie
+use Rattle.reach.proofs.all_can.Statement.{statement}
+use Rattle.reach.proofs.all_can.Tie as tie
 
 abbrev Inv-loop : tie.InvT-loop
 Inv-loop plan n c block cans₀ count i₀ cans i = (i ≤ count) × (count ≡ recordCount block) × (length cans ≡ mostRecords) × ((k : ℕ) → k < i → getD cans k 0 ≡ canBy plan n c block k)

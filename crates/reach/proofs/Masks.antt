@@ -25,8 +25,8 @@ use Rattle.automaton.proofs.All.{implies-of}
 use Rattle.slots.specs.Slots.{Held}
 use Rattle.firing.specs.Plan.{marksIn, joinsIn}
 use Rattle.firing.specs.Firing.{ownHolds, canBy, leavesBy, laterThan, laterBy, joinHolds, joinsBy, agreesBy, firesBy}
-use Rattle.starts.specs.Skips.{firingBy, leavingBy, agreeingBy, Cans}
-use Rattle.starts.proofs.MaskInTurn.{low-bits}
+use Rattle.reach.specs.Readings.{firingBy, leavingBy, agreeingBy, Cans}
+use Rattle.reach.proofs.MaskInTurn.{low-bits}
 
 -- ## One variable of a mask after another
 

@@ -25,9 +25,9 @@ use Rattle.slots.specs.Slots.{Held, slotBytes, countIn, stateIn, heldIn, holdin
 use Rattle.slots.proofs.Holding.{holding-grow, holding-bit}
 use Rattle.firing.specs.Firing.{canBy, firesBy, ReadBelow, Seated, Fit}
 use Rattle.firing.proofs.FiresBy.{fires-by}
-use Rattle.starts.specs.declared.Start.{Start}
-use Rattle.starts.specs.declared.Fire.{Fire}
-use Rattle.starts.specs.Skips.{firingBy, Reads, Usable, Ready, NextBy, Of}
+use Rattle.reach.specs.declared.Start.{Start}
+use Rattle.reach.specs.declared.Fire.{Fire}
+use Rattle.reach.specs.Readings.{firingBy, Reads, Usable, Ready, NextBy, Of}
 
 mask-empty : (n : ℕ) → mask (λ v. false) n ≡ 0
 unfolding mask

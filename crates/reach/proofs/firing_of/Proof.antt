@@ -1,4 +1,4 @@
--- `starts::firing_of` meets its contract. The loop's invariant: what is found so far and what the variables left will
+-- `reach::firing_of` meets its contract. The loop's invariant: what is found so far and what the variables left will
 -- give make the whole. Assumes nothing.
 use native.Mathlib.Nat.{zero-mul}
 use native.Mathlib.Omega.{arith}
@@ -10,12 +10,12 @@ use Rattle.numbers.specs.Numbers.{oneIf}
 use Rattle.patterns.specs.Patterns.{mostVariables}
 use Rattle.slots.specs.Slots.{heldIn}
 use Rattle.firing.specs.Firing.{laterBy}
-use Rattle.starts.specs.Skips.{agreeingBy}
-use Rattle.starts.proofs.MaskInTurn.{low-bits, rest-less}
-use Rattle.starts.proofs.Masks.{agreeing-none, agreeing-bound, agreeing-lowest}
+use Rattle.reach.specs.Readings.{agreeingBy}
+use Rattle.reach.proofs.MaskInTurn.{low-bits, rest-less}
+use Rattle.reach.proofs.Masks.{agreeing-none, agreeing-bound, agreeing-lowest}
 use borrow.Author.Needs.{needs}
-use Rattle.starts.proofs.firing_of.Statement.{statement}
-use Rattle.starts.proofs.firing_of.Tie as tie
+use Rattle.reach.proofs.firing_of.Statement.{statement}
+use Rattle.reach.proofs.firing_of.Tie as tie
 
 abbrev Inv-loop : tie.InvT-loop
 Inv-loop block plan i asked slot firing₀ rest₀ firing rest = (rest < 2 ^ mostVariables) × (firing + agreeingBy plan block i rest (heldIn slot) ≡ agreeingBy plan block i asked (heldIn slot))

@@ -1,0 +1,4 @@
+pub mod MaskInTurn
+pub mod Masks
+pub mod Readings
+pub mod Growing

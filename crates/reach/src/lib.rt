@@ -1,0 +1,128 @@
+// What a reading can still come to: the variables that fire for it, and the next record at which one does.
+ghost use mathlib.Core.Path.{_≡_};
+ghost use Prim.Native.Nat.{_^_, _<_, _≤_};
+ghost use lib.ListN.{length, replicate};
+ghost use Rattle.records.specs.Blocks.{mostRecords};
+ghost use Rattle.patterns.specs.Patterns.{mostVariables};
+ghost use Rattle.slots.specs.Slots.{heldIn};
+ghost use Rattle.firing.specs.Plan.{planRoom};
+ghost use Rattle.firing.specs.Firing.{Fit};
+ghost use Rattle.reach.specs.Readings.{leavingBy, agreeingBy, Cans, Usable, Ready, NextBy};
+
+// What one start fixes: how many variables and conditions there are, the record at which its readings close,
+// and their mark.
+pub struct Start {
+    pub n: usize,
+    pub c: usize,
+    pub until: usize,
+    pub mark: u8,
+}
+
+// A record that fires, and the variables that fire there.
+pub struct Fire {
+    pub at: usize,
+    pub variables: u64,
+}
+
+// ## Which variables fire
+
+// For each record no variable.
+fn no_cans() -> [u16; records::MOST_RECORDS]
+    ensures { λ r. ⌜ r ≡ replicate mostRecords 0 ⌝ }
+{
+    [0; records::MOST_RECORDS]
+}
+
+// For each record the variables that can fire there by its own conditions, settled once a call and not once a reading.
+pub fn all_can(
+    plan: &[u64; firing::PLAN_ROOM],
+    n: usize,
+    c: usize,
+    block: &[u8],
+) -> [u16; records::MOST_RECORDS]
+    requires { ⌜ Usable (now plan) (now block) n c ⌝ }
+    ensures { λ r. ⌜ Cans (now (plan .entry)) (now (block .entry)) n c r ⌝ }
+{
+    let mut cans = no_cans();
+    let count = block.len() / records::RECORD_BYTES;
+    let mut i = 0;
+    while i < count {
+        cans[i] = firing::can_fire(plan, n, c, block, i) as u16;
+        i += 1;
+    }
+    cans
+}
+
+// The variables that leave a state.
+pub fn leaving(plan: &[u64; firing::PLAN_ROOM], n: usize, state: u64) -> u64
+    requires { ⌜ (length (now plan) ≡ planRoom) × (n ≤ mostVariables) ⌝ }
+    ensures { λ r. ⌜ r ≡ leavingBy (now (plan .entry)) n state ⌝ }
+{
+    let mut leave = 0;
+    let mut v = 0;
+    while v < n {
+        leave = leave + numbers::weight_if(firing::leaves(plan, state, v), v);
+        v += 1;
+    }
+    leave
+}
+
+// Of the variables asked, which can fire at record i and leave the reading's state, those that fire.
+fn firing_of(
+    block: &[u8],
+    plan: &[u64; firing::PLAN_ROOM],
+    i: usize,
+    asked: u64,
+    slot: &[u8],
+) -> u64
+    requires { ⌜ (asked < 2 ^ mostVariables) × Fit (now plan) (now block) i (now slot) ⌝ }
+    ensures { λ r. ⌜ r ≡ agreeingBy (now (plan .entry)) (now (block .entry)) i asked (heldIn (now (slot .entry))) ⌝ }
+{
+    let mut firing = 0;
+    let mut rest = asked;
+    while rest != 0 {
+        let v = numbers::lowest_bit(rest);
+        rest = numbers::without_bit(rest, v);
+        if !firing::joins_hold(plan, block, i, v, slot) {
+            continue;
+        }
+        firing = firing + numbers::weight_if(firing::is_later(plan, block, i, v, slot), v);
+    }
+    firing
+}
+
+// Skips to the next record from j on that fires; to the record at which the reading closes, where none does.
+pub fn next_fire(
+    block: &[u8],
+    plan: &[u64; firing::PLAN_ROOM],
+    cans: &[u16; records::MOST_RECORDS],
+    s: Start,
+    j: usize,
+    slot: &[u8],
+) -> Fire
+    requires { ⌜ (Ready (now plan) (now block) s (now slot) j)
+        × Cans (now plan) (now block) (s .n) (s .c) (now cans) ⌝ }
+    ensures { λ f. ⌜ NextBy (now (plan .entry)) (now (block .entry)) s (now (slot .entry)) j f ⌝ }
+{
+    let leave = leaving(plan, s.n, slots::state_of(slot));
+    let mut i = j;
+    while i < s.until {
+        let asked = cans[i] as u64 & leave;
+        if asked == 0 {
+            i += 1;
+            continue;
+        }
+        let firing = firing_of(block, plan, i, asked, slot);
+        if firing != 0 {
+            return Fire {
+                at: i,
+                variables: firing,
+            };
+        }
+        i += 1;
+    }
+    Fire {
+        at: i,
+        variables: 0,
+    }
+}
