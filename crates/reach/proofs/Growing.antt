@@ -200,6 +200,19 @@ module _ (p : Pattern) (B : Block) where
       → Among r j end x
   among mark end j l r x m = among-by (end - j) mark end j (omega arith) r x m
 
+  pub closes-grown :
+      (mark end j : ℕ) → j ≤ end → (r : Reading) (m : ℕ) (q : Reading)
+      → List·Memᴰ (closed m q) (skipUntil p B mark end j r)
+      → ClosedAs r j end q
+  unfolding Among
+  closes-grown mark end j l r m q h = among mark end j l r (closed m q) h
+
+  pub over-grown :
+      (mark end j : ℕ) → j ≤ end → (r : Reading) (x : ℕ) → List·Memᴰ (over x) (skipUntil p B mark end j r)
+      → OverAt r j end x
+  unfolding Among
+  over-grown mark end j l r x h = among mark end j l r (over x) h
+
 -- ## Which steps fire for a grown reading
 
 -- the parts of a test that fires, by the plan

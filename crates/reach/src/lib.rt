@@ -9,13 +9,18 @@ ghost use Rattle.firing.specs.Plan.{planRoom};
 ghost use Rattle.firing.specs.Firing.{Fit};
 ghost use Rattle.reach.specs.Readings.{leavingBy, agreeingBy, Cans, Usable, Ready, NextBy};
 
-// What one start fixes: how many variables and conditions there are, the record at which its readings close,
-// and their mark.
+// What one start fixes: how many variables and conditions there are, and the duration; the record at which its readings
+// close, and their mark; a record before which none of them takes a binding too many, the number from which on counts
+// are not told, and where the count of branches stops.
 pub struct Start {
     pub n: usize,
     pub c: usize,
+    pub duration: u64,
     pub until: usize,
     pub mark: u8,
+    pub floor: usize,
+    pub most: usize,
+    pub limit: usize,
 }
 
 // A record that fires, and the variables that fire there.

@@ -30,6 +30,8 @@ use Rattle.slots.proofs.Results.{bytesOf-append}
 use Rattle.starts.specs.declared.Counts.{Counts}
 use Rattle.starts.specs.Sinks.{Sink, sinkOf, stop, emits, noneYet, answerBy, leftBy, measureBy}
 use Rattle.starts.proofs.Sinks.{least-all, used-all, readings-all, readings-few, memory-all}
+use Rattle.starts.specs.Skips.{Passed}
+use Rattle.starts.proofs.Same.{length-emits, countsOf, same-answer, same-left, same-measure}
 
 -- ## The input
 
@@ -305,28 +307,33 @@ module _ (pattern block : List ℕ) (checked : Checked) (is : checked ≡ patter
       few-records = let f = block-good .few in omega (arith, length-records block)
 
       pub call-answered :
-          (lent memory : List ℕ) (o : Counts)
-          → sinkOf memory o ≡ emits (sinkOf lent noneYet) (foundAll (checked .pattern) (recordsOf block))
-          → length memory ≡ length lent
-          → length lent < stop
+          (lent : ℕ) (memory : List ℕ) (o : Counts) → Passed (checked .pattern) block 0 lent (sinkOf memory o)
+          → lent < stop
           → (answer : Answer) (after : List ℕ) → answer ≡ answerBy o (length memory / 2)
           → after ≡ leftBy o memory
-          → StartByStartCall pattern block (length lent) answer after
-      call-answered lent memory o e size small answer after a b =
-          let half : length memory / 2 ≡ roomIn (length lent) = ap (λ (k : ℕ). k / 2) size in
-          let r = start-ends (checked .pattern) (recordsOf block) (never-fall block block-good) few-records lent memory o e size small answer after (a ∙ ap (answerBy o) half) b in
-          let q = subst (λ (x : Checked). Answered (x .pattern) (recordsOf block) (length lent) answer after) is r in
+          → StartByStartCall pattern block lent answer after
+      call-answered lent memory o passed small answer after a b =
+          let t : Sink = emits (sinkOf (passed .memory) noneYet) (foundAll (checked .pattern) (recordsOf block)) in
+          let size = length-emits (sinkOf (passed .memory) noneYet) (foundAll (checked .pattern) (recordsOf block)) in
+          let half : length (t .memory) / 2 ≡ roomIn (length (passed .memory)) = ap (λ (k : ℕ). k / 2) size in
+          let few = passed .size in
+          let r = start-ends (checked .pattern) (recordsOf block) (never-fall block block-good) few-records (passed .memory) (t .memory) (countsOf t) refl size (omega arith) answer after
+          (a ∙ same-answer (sinkOf memory o) t (passed .same) ∙ ap (answerBy (countsOf t)) half)
+          (b ∙ same-left (sinkOf memory o) t (passed .same)) in
+          let q = subst (λ (x : Checked). Answered (x .pattern) (recordsOf block) lent answer after) is
+          (subst (λ (k : ℕ). Answered (checked .pattern) (recordsOf block) k answer after) few r) in
           StartByStartCall.answered answers (q .numbers) (q .promise) (q .left)
 
       pub measure-answered :
-          (lent memory : List ℕ) (o : Counts)
-          → sinkOf memory o ≡ emits (sinkOf lent noneYet) (foundAll (checked .pattern) (recordsOf block))
+          (lent : ℕ) (memory : List ℕ) (o : Counts) → Passed (checked .pattern) block mostCounted lent (sinkOf memory o)
           → (answer : Answer) → answer ≡ measureBy o
           → MeasureCall pattern block answer
-      measure-answered lent memory o e answer a =
+      measure-answered lent memory o passed answer a =
+          let t : Sink = emits (sinkOf (passed .memory) noneYet) (foundAll (checked .pattern) (recordsOf block)) in
           MeasureCall.answered answers
           (subst (λ (x : Checked). Measure (x .pattern) (recordsOf block) answer) is
-          (measure-ends (checked .pattern) (recordsOf block) (never-fall block block-good) few-records lent memory o e answer a))
+          (measure-ends (checked .pattern) (recordsOf block) (never-fall block block-good) few-records (passed .memory) (t .memory) (countsOf t) refl answer
+          (a ∙ same-measure (sinkOf memory o) t (passed .same))))
 
 -- the counts as measure answers them
 module _ (o : Counts) where

@@ -26,10 +26,10 @@ emits-append s (e ∷ l) m = emits-append (emit s e) l m
 -- ## One finding
 
 pub sink-same :
-    {m m′ : List ℕ} {u u′ r r′ l l′ : ℕ} → m ≡ m′ → u ≡ u′ → r ≡ r′ → l ≡ l′
-    → _≡_ {A = Sink} (record { memory = m; used = u; readings = r; least = l })
-    (record { memory = m′; used = u′; readings = r′; least = l′ })
-sink-same p q s t = λ i. record { memory = p i; used = q i; readings = s i; least = t i }
+    {m m′ : List ℕ} {u u′ r r′ l l′ k k′ : ℕ} → m ≡ m′ → u ≡ u′ → r ≡ r′ → l ≡ l′ → k ≡ k′
+    → _≡_ {A = Sink} (record { memory = m; used = u; readings = r; least = l; steps = k })
+    (record { memory = m′; used = u′; readings = r′; least = l′; steps = k′ })
+sink-same p q s t w = λ i. record { memory = p i; used = q i; readings = s i; least = t i; steps = w i }
 
 pub put-room :
     (memory : List ℕ) (at : ℕ) (bytes : List ℕ) → at + length bytes ≤ length memory
@@ -51,18 +51,20 @@ module _ (memory : List ℕ) (counts : Counts) (mark : ℕ) (slot : List ℕ) wh
       → after ≡ put memory (2 * counts .used) (bytesOf (lineNumbers mark (heldIn slot .bindings)))
       → used ≡ sum (counts .used) (countIn slot + 1)
       → readings ≡ sum (counts .readings) 1
-      → _≡_ {A = Sink} (record { memory = after; used = used; readings = readings; least = counts .least })
+      → _≡_ {A = Sink}
+      (record { memory = after; used = used; readings = readings; least = counts .least; steps = counts .steps })
       (emit (sinkOf memory counts) (closed mark (heldIn slot .bindings)))
   unfolding emit
   counted after used readings p q s =
-      sink-same p (q ∙ ap (λ (k : ℕ). sum (counts .used) (k + 1)) (sym (length-heldIn slot))) s refl
+      sink-same p (q ∙ ap (λ (k : ℕ). sum (counts .used) (k + 1)) (sym (length-heldIn slot))) s refl refl
 
   pub reported :
       (after : List ℕ) (used readings : ℕ) → 2 * counts .used + 2 + 2 * countIn slot ≤ length memory
       → after ≡ written memory (2 * counts .used) (bytesOf (lineNumbers mark (heldIn slot .bindings)))
       → used ≡ sum (counts .used) (countIn slot + 1)
       → readings ≡ sum (counts .readings) 1
-      → _≡_ {A = Sink} (record { memory = after; used = used; readings = readings; least = counts .least })
+      → _≡_ {A = Sink}
+      (record { memory = after; used = used; readings = readings; least = counts .least; steps = counts .steps })
       (emit (sinkOf memory counts) (closed mark (heldIn slot .bindings)))
   reported after used readings h p q s =
       let n = length-line mark (heldIn slot .bindings) in
@@ -73,7 +75,8 @@ module _ (memory : List ℕ) (counts : Counts) (mark : ℕ) (slot : List ℕ) wh
       (used readings : ℕ) → length memory < 2 * counts .used + 2 + 2 * countIn slot
       → used ≡ sum (counts .used) (countIn slot + 1)
       → readings ≡ sum (counts .readings) 1
-      → _≡_ {A = Sink} (record { memory = memory; used = used; readings = readings; least = counts .least })
+      → _≡_ {A = Sink}
+      (record { memory = memory; used = used; readings = readings; least = counts .least; steps = counts .steps })
       (emit (sinkOf memory counts) (closed mark (heldIn slot .bindings)))
   unreported used readings h q s =
       let n = length-line mark (heldIn slot .bindings) in

@@ -1,6 +1,6 @@
 -- One start after another: what each way out of a start comes to, and what is left to be done. Assumes nothing.
 use mathlib.Core.Path.{_≡_, sym, ap, subst, _∙_}
-use mathlib.Core.List.{List, []}
+use mathlib.Core.List.{List, [], List·Memᴰ}
 use Prim.Native.Nat.{ℕ, suc, _+_, _-_, _≤_, _<_, _^_}
 use native.Mathlib.Numerals.{add-one}
 use native.Mathlib.Omega.{arith}
@@ -12,33 +12,49 @@ use Rattle.records.specs.Records.{recordAt, recordCount, recordsOf, eventKind}
 use Rattle.records.proofs.Listed.{length-records}
 use Rattle.patterns.specs.declared.Pattern.{Pattern}
 use Rattle.rule.specs.Rule.{Block, fires}
-use Rattle.rule.specs.Starts.{until, markOf, withBinding, skipUntil, startFound, foundFrom, foundAll}
+use Rattle.automaton.proofs.Membership.{upto-mem, collect-mem}
+use Rattle.rule.specs.Starts.Found.{over}
+use Rattle.rule.specs.Starts.{Found, until, markOf, withBinding, skipUntil, startFound, foundFrom, foundAll}
 use Rattle.rule.proofs.SkipBranch.{start-event, found-end, found-all, found-first}
 use Rattle.rule.proofs.SkipBranch.{start-gap as found-gap}
 use Rattle.slots.specs.Slots.{slotBytes, countIn, heldIn}
 use Rattle.reach.specs.declared.Start.{Start}
-use Rattle.starts.specs.Sinks.{Sink, emits}
+use Rattle.starts.specs.declared.Window.{Window}
+use Rattle.starts.specs.Sinks.{Sink, emits, Same}
+use Rattle.starts.specs.Sinks.Same.{equal}
 use Rattle.reach.specs.Readings.{firingBy, Usable, Of}
-use Rattle.starts.specs.Skips.{Firing, Branched, branchOver, StartIs, AllStarted}
+use Rattle.starts.specs.Skips.{By, Firing, Branching, giveUp, Branched, branchOver, WindowIs, Floor, AllStarted}
 use Rattle.starts.proofs.Sinks.{emits-append}
+use Rattle.starts.proofs.Same.{same-refl, same-trans, same-emits}
 use Rattle.reach.proofs.Readings.{nothing, firing-begins, firing-bound, empty-reads}
 use Rattle.starts.proofs.Windows.{is-event, is-gap}
 use Rattle.reach.proofs.MaskInTurn.{turn-none, mask-turn, low-bits}
-use Rattle.starts.proofs.Skips.{few-bits}
+use Rattle.starts.proofs.Skips.{few-bits, all-taken}
 
--- what is found from record i
-pub record Started (plan bytes : List ℕ) (n c duration i : ℕ) (before after : Sink) : Type 0 where
+-- one start's findings are among all of them
+found-mem :
+    (p : Pattern) (B : Block) (i : ℕ) → i < length B → {x : Found} → List·Memᴰ x (startFound p B i)
+    → List·Memᴰ x (foundAll p B)
+unfolding foundAll foundFrom
+found-mem p B i l m = collect-mem (startFound p B) (upto-mem 0 (length B) i (omega arith) (omega arith)) m
+
+-- what is found from record i, unless the start was given up
+pub record Started (plan bytes : List ℕ) (n c duration most i : ℕ) (before after : Sink) : Type 0 where
   pub found :
       (p : Pattern) → Of p plan bytes n c → p .duration ≡ duration
-      → after ≡ emits before (startFound p (recordsOf bytes) i)
+      → Same most after (emits before (startFound p (recordsOf bytes) i))
 
-module _ (plan bytes : List ℕ) (n c duration i : ℕ) (usable : Usable plan bytes n c)
+module _ (plan bytes : List ℕ) (n c duration most i : ℕ) (usable : Usable plan bytes n c)
     (inside : i < recordCount bytes) where
   pub started-gap :
-      (recordAt bytes i .kind ≡ eventKind → ⊥) → (before : Sink) → Started plan bytes n c duration i before before
+      (recordAt bytes i .kind ≡ eventKind → ⊥) → (before : Sink) → Started plan bytes n c duration most i before before
   unfolding emits
   started-gap e before =
-      record { found = λ p o d. ap (emits before) (sym (found-gap p (recordsOf bytes) i (is-gap bytes i inside e))) }
+      record {
+        found = λ p o d.
+            subst (λ (l : List Found). Same most before (emits before l)) (sym (found-gap p (recordsOf bytes) i (is-gap bytes i inside e)))
+            (same-refl most before);
+      }
 
   module _ (firing : ℕ) (is : firing ≡ firingBy plan bytes n c i nothing) where
     -- the readings that begin at record i, by the mask of the variables that fire there
@@ -53,87 +69,191 @@ module _ (plan bytes : List ℕ) (n c duration i : ℕ) (usable : Usable plan by
         (p .n) firing
         (is ∙ firing-begins p plan bytes n c o i inside)
 
-    pub started-none : firing ≡ 0 → (before : Sink) → Started plan bytes n c duration i before before
+    pub started-none : firing ≡ 0 → (before : Sink) → Started plan bytes n c duration most i before before
     unfolding emits
     started-none e before =
         by-test (eqb (recordAt bytes i .kind) eventKind)
         (λ t.
         record {
           found = λ p o d.
-              ap (emits before)
+              subst (λ (l : List Found). Same most before (emits before l))
               (sym (start-over (eqb-true (recordAt bytes i .kind) eventKind t) p o
-              ∙ turn-none (λ w. skipUntil p (recordsOf bytes) (markOf p (recordsOf bytes) i) (until p (recordsOf bytes) i) (suc i) (withBinding [] w i)) (p .n) firing e));
+              ∙ turn-none (λ w. skipUntil p (recordsOf bytes) (markOf p (recordsOf bytes) i) (until p (recordsOf bytes) i) (suc i) (withBinding [] w i)) (p .n) firing e))
+              (same-refl most before);
         })
         (λ t. started-gap (eqb-false (recordAt bytes i .kind) eventKind t) before)
 
     module _ (event : recordAt bytes i .kind ≡ eventKind) (slot : List ℕ) (none : heldIn slot ≡ nothing) (s : Start)
-        (start : StartIs bytes n c duration i s) where
-      pub start-firing : length slot ≡ slotBytes → countIn slot ≡ 0 → Firing plan bytes s slot i firing
+        (w : Window) (window : WindowIs bytes duration i w)
+        (is-start : s ≡ record {
+          n = n;
+          c = c;
+          duration = duration;
+          until = w .until;
+          mark = w .mark;
+          floor = s .floor;
+          most = most;
+          limit = s .limit;
+        }) where
+      same-until : s .until ≡ w .until
+      same-until = ap (λ (x : Start). x .until) is-start
+
+      same-mark : s .mark ≡ w .mark
+      same-mark = ap (λ (x : Start). x .mark) is-start
+
+      same-n : s .n ≡ n
+      same-n = ap (λ (x : Start). x .n) is-start
+
+      same-c : s .c ≡ c
+      same-c = ap (λ (x : Start). x .c) is-start
+
+      same-duration : s .duration ≡ duration
+      same-duration = ap (λ (x : Start). x .duration) is-start
+
+      same-most : s .most ≡ most
+      same-most = ap (λ (x : Start). x .most) is-start
+
+      -- a pattern of the plan by the start is one by the call, and the other way round
+      by-call : (p : Pattern) → By p plan bytes s → (Of p plan bytes n c) × (p .duration ≡ duration)
+      by-call p o =
+          (subst (λ (k : ℕ). Of p plan bytes k c) same-n (subst (λ (k : ℕ). Of p plan bytes (s .n) k) same-c (o .of)), o .duration ∙ same-duration)
+
+      by-start : (p : Pattern) → Of p plan bytes n c → p .duration ≡ duration → By p plan bytes s
+      by-start p o d =
+          record {
+            of = subst (λ (k : ℕ). Of p plan bytes (s .n) k) (sym same-c) (subst (λ (k : ℕ). Of p plan bytes k c) (sym same-n) o);
+            duration = d ∙ sym same-duration;
+          }
+
+      -- the list of the start's branch
+      start-list :
+          (p : Pattern) → By p plan bytes s
+          → branchOver p (recordsOf bytes) (s .mark) (s .until) i (heldIn slot .bindings) firing
+          ≡ startFound p (recordsOf bytes) i
+      start-list p o =
+          let q = by-call p o in
+          (λ k. branchOver p (recordsOf bytes) ((same-mark ∙ window .mark p (q .1)) k) ((same-until ∙ window .closes p (q .1)) k) i (none k .bindings) firing)
+          ∙ sym (start-over event p (q .0))
+
+      start-firing : length slot ≡ slotBytes → countIn slot ≡ 0 → Firing plan bytes s slot i firing
       start-firing size count =
-          let after = start .after in
+          let after = window .after in
+          let end = window .block in
+          let u = same-until in
+          let few = usable .variables in
+          let mark = window .small in
+          let m = same-mark in
           let small : firing < 2 ^ n = rw is (firing-bound plan bytes n c i nothing) in
           record {
             ready =
                 record {
-                  usable = rw (start .variables, start .conditions) usable;
-                  mark = start .small;
-                  block = start .block;
+                  usable = rw (same-n, same-c) usable;
+                  mark = omega arith;
+                  block = omega arith;
                   within = omega arith;
                   reads = empty-reads slot (s .n) i none size count;
                 };
-            before = after;
+            before = omega arith;
             room = omega arith;
             variables = few-bits n firing (usable .variables) small;
-            known = λ v t. let l = low-bits firing n v small t in omega (arith, start .variables);
+            known = λ v t. let l = low-bits firing n v small t in omega (arith, same-n);
           }
 
-      pub started-branch :
-          (before after : Sink) → Branched plan bytes s slot i firing before after
-          → Started plan bytes n c duration i before after
-      started-branch before after branched =
-          record {
-            found = λ p o d.
-                branched .found p (subst (λ (k : ℕ). Of p plan bytes k (s .c)) (sym (start .variables)) (subst (λ (k : ℕ). Of p plan bytes n k) (sym (start .conditions)) o))
-                ∙ (λ k. emits before (branchOver p (recordsOf bytes) (start .mark p d k) (start .closes p d k) i (none k .bindings) firing))
-                ∙ ap (emits before) (sym (start-over event p o));
-          }
+      module _ (size : length slot ≡ slotBytes) (count : countIn slot ≡ 0) (some : firing ≡ 0 → ⊥)
+          (floor : Floor plan bytes n c duration (s .floor)) where
+        fire-all : firing ≡ firingBy plan bytes (s .n) (s .c) i (heldIn slot)
+        fire-all = is ∙ (λ k. firingBy plan bytes (sym same-n k) (sym same-c k) i (sym none k))
+
+        -- what is found of the reading of no bindings is what is found from the start
+        whole-list :
+            (p : Pattern) → By p plan bytes s
+            → skipUntil p (recordsOf bytes) (s .mark) (s .until) i (heldIn slot .bindings) ≡ startFound p (recordsOf bytes) i
+        whole-list p o =
+            all-taken plan bytes s slot i firing (start-firing size count) fire-all (omega (arith, some)) p o ∙ start-list p o
+
+        pub start-branching : Branching plan bytes s slot i firing
+        start-branching =
+            record {
+              fire = start-firing size count;
+              all = fire-all;
+              some = omega (arith, some);
+              above =
+                  record {
+                    none = λ p o x m.
+                        let q = by-call p o in
+                        floor .none p (q .0) (q .1) x (found-mem p (recordsOf bytes) i (omega (arith, length-records bytes)) (subst (List·Memᴰ (over x)) (whole-list p o) m));
+                  };
+            }
+
+        pub started-branch :
+            (before after : Sink) → after .steps < giveUp → Branched plan bytes s slot i firing before after
+            → Started plan bytes n c duration most i before after
+        started-branch before after steps branched =
+            record {
+              found = λ p o d.
+                  let q = by-start p o d in
+                  subst (λ (k : ℕ). Same k after (emits before (startFound p (recordsOf bytes) i))) same-most
+                  (subst (λ (l : List Found). Same (s .most) after (emits before l)) (start-list p q) (branched .led .found steps p q));
+            }
 
 -- ## What is left to be done
 
 -- from record i on, of all that is found
-pub record Left (plan bytes : List ℕ) (n c duration i : ℕ) (none now : Sink) : Type 0 where
+pub record Left (plan bytes : List ℕ) (n c duration most i : ℕ) (none now : Sink) : Type 0 where
   pub found :
       (p : Pattern) → Of p plan bytes n c → p .duration ≡ duration
-      → emits none (foundAll p (recordsOf bytes)) ≡ emits now (foundFrom p (recordsOf bytes) i (recordCount bytes - i))
+      → Same most
+      (emits now (foundFrom p (recordsOf bytes) i (recordCount bytes - i)))
+      (emits none (foundAll p (recordsOf bytes)))
 
-module _ (plan bytes : List ℕ) (n c duration : ℕ) (none : Sink) where
-  pub left-all : Left plan bytes n c duration 0 none none
+module _ (plan bytes : List ℕ) (n c duration most : ℕ) (none : Sink) where
+  pub left-all : Left plan bytes n c duration most 0 none none
   left-all =
       record {
         found = λ p o d.
-            ap (emits none)
-            (sym (found-all p (recordsOf bytes)) ∙ ap (λ (k : ℕ). foundFrom p (recordsOf bytes) 0 (k - 0)) (length-records bytes));
+            subst (λ (l : List Found). Same most (emits none l) (emits none (foundAll p (recordsOf bytes))))
+            (sym (found-all p (recordsOf bytes)) ∙ ap (λ (k : ℕ). foundFrom p (recordsOf bytes) 0 (k - 0)) (length-records bytes))
+            (same-refl most (emits none (foundAll p (recordsOf bytes))));
       }
 
-  module _ (i : ℕ) (now : Sink) (left : Left plan bytes n c duration i none now) where
+  module _ (i : ℕ) (now : Sink) (left : Left plan bytes n c duration most i none now) where
     pub left-more :
-        i < recordCount bytes → (next : Sink) → Started plan bytes n c duration i now next
-        → Left plan bytes n c duration (i + 1) none next
+        i < recordCount bytes → (next : Sink) → Started plan bytes n c duration most i now next
+        → Left plan bytes n c duration most (i + 1) none next
     left-more l next started =
         record {
           found = λ p o d.
               let B : Block = recordsOf bytes in
               let m : ℕ = recordCount bytes in
-              left .found p o d
-              ∙ ap (emits now) (found-first p B i m l)
-              ∙ emits-append now (startFound p B i) (foundFrom p B (suc i) (m - suc i))
-              ∙ ap (λ (x : Sink). emits x (foundFrom p B (suc i) (m - suc i))) (sym (started .found p o d))
-              ∙ ap (λ (k : ℕ). emits next (foundFrom p B k (m - k))) (sym (add-one i));
+              let rest : List Found = foundFrom p B (suc i) (m - suc i) in
+              subst (λ (k : ℕ). Same most (emits next (foundFrom p B k (m - k))) (emits none (foundAll p B))) (sym (add-one i))
+              (same-trans most (emits next rest) (emits now (foundFrom p B i (m - i))) (emits none (foundAll p B))
+              (subst (Same most (emits next rest)) (sym (emits-append now (startFound p B i) rest) ∙ ap (emits now) (sym (found-first p B i m l)))
+              (same-emits most next (emits now (startFound p B i)) rest (started .found p o d)))
+              (left .found p o d));
         }
 
-    pub left-none : recordCount bytes ≤ i → AllStarted plan bytes n c duration none now
-    unfolding emits
-    left-none l =
+    -- the count of branches begins anew
+    pub left-begun :
+        (then : Sink) → then .memory ≡ now .memory → then .used ≡ now .used → then .readings ≡ now .readings
+        → then .least ≡ now .least
+        → Left plan bytes n c duration most i none then
+    left-begun then a b d e =
         record {
-          found = λ p o d. sym (left .found p o d ∙ ap (emits now) (found-end p (recordsOf bytes) i (recordCount bytes) l));
+          found = λ p o q.
+              let rest : List Found = foundFrom p (recordsOf bytes) i (recordCount bytes - i) in
+              same-trans most (emits then rest) (emits now rest) (emits none (foundAll p (recordsOf bytes)))
+              (same-emits most then now rest (equal a b d e))
+              (left .found p o q);
+        }
+
+    pub left-none :
+        recordCount bytes ≤ i → (limit : ℕ) → now .steps < giveUp → AllStarted plan bytes n c duration most limit none now
+    unfolding emits
+    left-none l limit steps =
+        record {
+          bounded = λ h. steps;
+          found = λ h p o d.
+              subst (λ (k : List Found). Same most (emits now k) (emits none (foundAll p (recordsOf bytes)))) (found-end p (recordsOf bytes) i (recordCount bytes) l)
+              (left .found p o d);
         }

@@ -21,7 +21,7 @@ use Rattle.rule.specs.Computed.{isEvent}
 use Rattle.rule.specs.Starts.{isPast, closesAt, until, markAt}
 use Rattle.rule.proofs.SkipBranch.{stays-open, closes-gap, closes-past, until-at, until-end, mark-past, mark-gap}
 use Rattle.rule.proofs.SkipBranch.{mark-end}
-use Rattle.starts.specs.Skips.{OpenTo, StartIs}
+use Rattle.starts.specs.Skips.{OpenTo, WindowIs}
 
 module _ (bytes : List ℕ) where
   abbrev B : Block
@@ -63,52 +63,49 @@ module _ (bytes : List ℕ) where
           near = λ q a b. ⊎-elim (λ z. subst (λ (x : ℕ). recordAt bytes x .time ≤ recordAt bytes i .time + duration) (sym z) t) (λ z. opened .near q a z) (eq-or-lt-of-le {n = q} {m = k} (omega arith));
         }
 
-    module _ (n c : ℕ) where
-      start-by :
-          (mark : ℕ) → mark < 16 → ((p : Pattern) → p .duration ≡ duration → until p B i ≡ k) → markAt B k ≡ mark
-          → StartIs bytes n c duration i (record { n = n; c = c; until = k; mark = mark })
-      start-by mark small u m =
-          record {
-            variables = refl;
-            conditions = refl;
-            after = l;
-            block = few;
-            opened = opened;
-            small = small;
-            closes = λ p d. sym (u p d);
-            mark = λ p d. sym m ∙ ap (markAt B) (sym (u p d));
-          }
+    window-by :
+        (mark : ℕ) → mark < 16 → ((p : Pattern) → p .duration ≡ duration → until p B i ≡ k) → markAt B k ≡ mark
+        → WindowIs bytes duration i (record { until = k; mark = mark })
+    window-by mark small u m =
+        record {
+          after = l;
+          block = few;
+          opened = opened;
+          small = small;
+          closes = λ p d. sym (u p d);
+          mark = λ p d. sym m ∙ ap (markAt B) (sym (u p d));
+        }
 
-      pub start-gap :
-          k < recordCount bytes → (recordAt bytes k .kind ≡ eventKind → ⊥)
-          → StartIs bytes n c duration i (record { n = n; c = c; until = k; mark = gapMark })
-      start-gap inside e =
-          let z : k < length B = omega (arith, length-records bytes) in
-          start-by gapMark (omega arith)
-          (λ p d. until-at p B i k z (none-closes p d) (closes-gap p B i k l (is-gap k inside e)))
-          (mark-gap B k z (is-gap k inside e))
+    pub window-gap :
+        k < recordCount bytes → (recordAt bytes k .kind ≡ eventKind → ⊥)
+        → WindowIs bytes duration i (record { until = k; mark = gapMark })
+    window-gap inside e =
+        let z : k < length B = omega (arith, length-records bytes) in
+        window-by gapMark (omega arith)
+        (λ p d. until-at p B i k z (none-closes p d) (closes-gap p B i k l (is-gap k inside e)))
+        (mark-gap B k z (is-gap k inside e))
 
-      pub start-past :
-          k < recordCount bytes → recordAt bytes k .kind ≡ eventKind
-          → ltb (recordAt bytes i .time + duration) (recordAt bytes k .time) ≡ true
-          → StartIs bytes n c duration i (record { n = n; c = c; until = k; mark = pastMark })
-      start-past inside e t =
-          let z : k < length B = omega (arith, length-records bytes) in
-          start-by pastMark (omega arith)
-          (λ p d. until-at p B i k z (none-closes p d) (closes-past p B i k l (is-event k inside e)
-          (past-by p i k (omega arith) inside ∙ ap (λ (x : ℕ). ltb (recordAt bytes i .time + x) (recordAt bytes k .time)) d ∙ t)))
-          (mark-past B k (is-event k inside e))
+    pub window-past :
+        k < recordCount bytes → recordAt bytes k .kind ≡ eventKind
+        → ltb (recordAt bytes i .time + duration) (recordAt bytes k .time) ≡ true
+        → WindowIs bytes duration i (record { until = k; mark = pastMark })
+    window-past inside e t =
+        let z : k < length B = omega (arith, length-records bytes) in
+        window-by pastMark (omega arith)
+        (λ p d. until-at p B i k z (none-closes p d) (closes-past p B i k l (is-event k inside e)
+        (past-by p i k (omega arith) inside ∙ ap (λ (x : ℕ). ltb (recordAt bytes i .time + x) (recordAt bytes k .time)) d ∙ t)))
+        (mark-past B k (is-event k inside e))
 
-      pub start-end :
-          recordCount bytes ≤ k → StartIs bytes n c duration i (record { n = n; c = c; until = k; mark = endMark })
-      start-end end =
-          let z : k ≡ length B = omega (arith, length-records bytes) in
-          start-by endMark (omega arith)
-          (λ p d. until-end p B i (λ q a b. none-closes p d q a (omega arith)) ∙ sym z)
-          (ap (markAt B) z ∙ mark-end B anyPattern)
-        where
-          anyPattern : Pattern
-          anyPattern = Rattle.patterns.specs.Checked.blank
+    pub window-end :
+        recordCount bytes ≤ k → WindowIs bytes duration i (record { until = k; mark = endMark })
+    window-end end =
+        let z : k ≡ length B = omega (arith, length-records bytes) in
+        window-by endMark (omega arith)
+        (λ p d. until-end p B i (λ q a b. none-closes p d q a (omega arith)) ∙ sym z)
+        (ap (markAt B) z ∙ mark-end B anyPattern)
+      where
+        anyPattern : Pattern
+        anyPattern = Rattle.patterns.specs.Checked.blank
 
 pub open-none : (bytes : List ℕ) (duration i : ℕ) → OpenTo bytes duration i 0
 open-none bytes duration i = record { event = λ q a b. absurd (omega arith); near = λ q a b. absurd (omega arith) }

@@ -1,8 +1,9 @@
 -- What the start-by-start pass has written and counted, and what a finding does to it. No promise of a public call
 -- names this file.
+use mathlib.Core.Path.{_≡_}
 use mathlib.Core.Bool.{true, false}
 use mathlib.Core.List.{List, [], _∷_, _++_}
-use Prim.Native.Nat.{ℕ, _+_, _-_, _*_, _/_, min}
+use Prim.Native.Nat.{ℕ, _+_, _-_, _*_, _/_, _≤_, _<_, min}
 use lib.Dec.{leb, ltb}
 use lib.ListN.{length, take, replicate}
 use Rattle.numbers.specs.Numbers.{bytesOf, written}
@@ -15,16 +16,23 @@ use Rattle.slots.specs.Results.{lineNumbers}
 use Rattle.starts.specs.declared.Counts.{Counts}
 
 -- the lent result beside the counts: numbers, readings, and the least record at which a reading would take a binding
--- too many
+-- too many; and how long this start is being looked at
 pub record Sink : Type 0 where
   pub memory : List ℕ
   pub used : ℕ
   pub readings : ℕ
   pub least : ℕ
+  pub steps : ℕ
 
 abbrev pub sinkOf : List ℕ → Counts → Sink
 sinkOf memory counts =
-    record { memory = memory; used = counts .used; readings = counts .readings; least = counts .least }
+    record {
+      memory = memory;
+      used = counts .used;
+      readings = counts .readings;
+      least = counts .least;
+      steps = counts .steps;
+    }
 
 -- counts stop at the largest number of 64 bits, which is beyond any room
 abbrev pub stop : ℕ
@@ -47,8 +55,16 @@ emit s (closed mark r) =
       used = sum (s .used) (length r + 1);
       readings = sum (s .readings) 1;
       least = s .least;
+      steps = s .steps;
     }
-emit s (over j) = record { memory = s .memory; used = s .used; readings = s .readings; least = min (s .least) j }
+emit s (over j) =
+    record {
+      memory = s .memory;
+      used = s .used;
+      readings = s .readings;
+      least = min (s .least) j;
+      steps = s .steps;
+    }
 
 unfoldable pub emits : Sink → List Found → Sink
 emits s [] = s
@@ -56,7 +72,29 @@ emits s (e ∷ l) = emits (emit s e) l
 
 -- nothing counted; the number of no record stands for none with a binding too many
 abbrev pub noneYet : Counts
-noneYet = record { used = 0; readings = 0; least = mostRecords }
+noneYet = record { used = 0; readings = 0; least = mostRecords; steps = 0 }
+
+-- ## Sinks that give the same answer
+
+-- reports change the answer no more: there is no room for the numbers so far, and both counts have come to `most`,
+-- beyond which the answer does not tell them
+pub record Told (most : ℕ) (s : Sink) : Type 0 where
+  pub room : length (s .memory) / 2 < s .used
+  pub used : most ≤ s .used
+  pub readings : most ≤ s .readings
+  pub usedFits : s .used ≤ stop
+  pub readingsFit : s .readings ≤ stop
+
+-- the answer by s is that by t, whatever both come upon next: they have the same least record with a binding too many,
+-- and beside it the same bytes and counts, unless that record decides or reports change nothing any more
+pub data Same (most : ℕ) (s t : Sink) : Type 0 where
+  equal : s .memory ≡ t .memory → s .used ≡ t .used → s .readings ≡ t .readings → s .least ≡ t .least → Same most s t
+  known :
+      length (s .memory) ≡ length (t .memory) → s .least ≡ t .least → s .least < mostRecords → Same most s t
+  told :
+      length (s .memory) ≡ length (t .memory) → s .least ≡ t .least → Told most s → Told most t → Same most s t
+
+-- ## The answer
 
 -- 9, then 11, by what was counted
 unfoldable pub answerBy : Counts → ℕ → Answer

@@ -1,6 +1,8 @@
 // The start-by-start pass, and measure.
 ghost use mathlib.Core.Path.{_≡_};
-ghost use Prim.Native.Nat.{_+_, _-_, _*_, _^_, _/_, _<_, _≤_, min, max};
+ghost use mathlib.Core.Bool.{true, false};
+ghost use mathlib.Core.List.{List};
+ghost use Prim.Native.Nat.{ℕ, _+_, _-_, _*_, _^_, _/_, _<_, _≤_, min, max};
 ghost use lib.Dec.{ltb};
 ghost use lib.ListN.{length, replicate};
 ghost use Rattle.numbers.specs.Bits.{within};
@@ -16,9 +18,10 @@ ghost use Rattle.slots.specs.Slots.{slotBytes, countIn, heldIn};
 ghost use Rattle.firing.specs.Plan.{planRoom};
 ghost use Rattle.firing.specs.Firing.{Fit};
 ghost use Rattle.starts.specs.Sinks.{sinkOf, sum as sumTo, emit, emits, noneYet, answerBy, leftBy, measureBy};
-ghost use Rattle.reach.specs.Readings.{Cans, Reads, Usable};
-ghost use Rattle.starts.specs.Skips.{Taking, Firing};
-ghost use Rattle.starts.specs.Skips.{Closed, Skipped, Branched, OpenTo, StartIs, AllStarted};
+ghost use Rattle.reach.specs.Readings.{Cans, Reads, Usable, Ready};
+ghost use Rattle.reach.specs.Growing.{NeverFull, NoneOver};
+ghost use Rattle.starts.specs.Skips.{Above, Taking, Branching, Mute, Settled, Floor};
+ghost use Rattle.starts.specs.Skips.{Closed, Skipped, Branched, OpenTo, WindowIs, AllStarted, Passed};
 
 // The number of no record.
 const NO_RECORD: usize = records::MOST_RECORDS;
@@ -26,14 +29,28 @@ const NO_RECORD: usize = records::MOST_RECORDS;
 // Where measure's counts stop (Rule 7.7).
 const MOST_COUNTED: usize = 4294967295;
 
+// How many branches a start takes before each is asked what it can still come to.
+const PATIENCE: usize = 64;
+
+// How many branches a start takes before the block is looked at as a whole.
+const GIVE_UP: usize = 256;
+
 // Where counts stop: beyond any room.
 const STOP: usize = 18446744073709551615;
 
-// The numbers and readings so far, and the least record at which a reading would take a binding too many.
+// The numbers and readings so far, the least record at which a reading would take a binding too many, and how many
+// branches this start has taken, up to a limit.
 pub struct Counts {
     pub used: usize,
     pub readings: usize,
     pub least: usize,
+    pub steps: usize,
+}
+
+// Where the readings of a start close, and their mark.
+pub struct Window {
+    pub until: usize,
+    pub mark: u8,
 }
 
 // ## What is written and counted
@@ -57,6 +74,7 @@ fn report(result: &mut [u8], slot: &[u8], mark: u8, counts: Counts) -> Counts
         used: sum(at, bindings + 1),
         readings: sum(counts.readings, 1),
         least: counts.least,
+        steps: counts.steps,
     };
     let room = result.len() / 2;
     if at < room {
@@ -91,22 +109,178 @@ fn close(result: &mut [u8], slot: &[u8], s: reach::Start, counts: Counts) -> Cou
 // A reading would take a binding too many at record j: the least such record is kept.
 fn note_over(counts: Counts, j: usize) -> Counts
     ensures { λ o. ⌜ (o .used ≡ counts .used) × (o .readings ≡ counts .readings)
-        × (o .least ≡ min (counts .least) j) ⌝ }
+        × (o .least ≡ min (counts .least) j) × (o .steps ≡ counts .steps) ⌝ }
 {
     if j < counts.least {
         Counts {
             used: counts.used,
             readings: counts.readings,
             least: j,
+            steps: counts.steps,
         }
     } else {
         counts
     }
 }
 
+// ## What can still change the answer
+
+// Whether there is no room for the numbers so far, and both counts are such that the answer does not tell them.
+fn is_told(counts: Counts, room: usize, most: usize) -> bool
+    ensures { λ r. ⌜ (r ≡ true → (room < counts .used) × (most ≤ counts .used) × (most ≤ counts .readings)) ⌝ }
+{
+    if counts.used <= room {
+        return false;
+    }
+    if counts.used < most {
+        return false;
+    }
+    most <= counts.readings
+}
+
+// Whether a report of the reading, held before record j, may still change the answer.
+fn may_report(
+    block: &[u8],
+    plan: &[u64; firing::PLAN_ROOM],
+    cans: &[u16; records::MOST_RECORDS],
+    s: reach::Start,
+    j: usize,
+    slot: &[u8],
+    counts: Counts,
+    room: usize,
+) -> bool
+    requires { ⌜ (Ready (now plan) (now block) s (now slot) j)
+        × Cans (now plan) (now block) (s .n) (s .c) (now cans) ⌝ }
+    ensures { λ r. ⌜ (r ≡ false → Mute (now (plan .entry)) (now (block .entry)) s (now (slot .entry)) j counts room) ⌝ }
+{
+    if counts.least < NO_RECORD {
+        return false;
+    }
+    if is_told(counts, room, s.most) {
+        return false;
+    }
+    if counts.steps < PATIENCE {
+        return true;
+    }
+    can_fill(block, plan, cans, s, j, slot)
+}
+
+// The smaller of two.
+fn smaller(a: usize, b: usize) -> usize
+    ensures { λ r. ⌜ r ≡ min a b ⌝ }
+{
+    if a < b { a } else { b }
+}
+
+// Whether the reading, held before record j, may still take a binding too many below the least record so far.
+fn may_exceed(
+    block: &[u8],
+    plan: &[u64; firing::PLAN_ROOM],
+    cans: &[u16; records::MOST_RECORDS],
+    s: reach::Start,
+    j: usize,
+    slot: &[u8],
+    counts: Counts,
+) -> bool
+    requires { ⌜ (Ready (now plan) (now block) s (now slot) j)
+        × (Cans (now plan) (now block) (s .n) (s .c) (now cans))
+        × Above (now plan) (now block) s j (heldIn (now slot) .bindings) (s .floor) ⌝ }
+    ensures { λ r. ⌜ (r ≡ false → Above (now (plan .entry)) (now (block .entry)) s j (heldIn (now (slot .entry)) .bindings)
+        (counts .least)) ⌝ }
+{
+    let end = smaller(s.until, counts.least);
+    if end <= s.floor {
+        return false;
+    }
+    if !has_room(s, j, slot, end) {
+        return false;
+    }
+    if counts.steps < PATIENCE {
+        return true;
+    }
+    can_exceed(block, plan, cans, s, j, slot, end)
+}
+
+// Whether nothing that the reading, held before record j, can still come to changes the answer.
+fn is_settled(
+    block: &[u8],
+    plan: &[u64; firing::PLAN_ROOM],
+    cans: &[u16; records::MOST_RECORDS],
+    s: reach::Start,
+    j: usize,
+    slot: &[u8],
+    counts: Counts,
+    room: usize,
+) -> bool
+    requires { ⌜ (Ready (now plan) (now block) s (now slot) j)
+        × (Cans (now plan) (now block) (s .n) (s .c) (now cans))
+        × Above (now plan) (now block) s j (heldIn (now slot) .bindings) (s .floor) ⌝ }
+    ensures { λ r. ⌜ (r ≡ true → Settled (now (plan .entry)) (now (block .entry)) s (now (slot .entry)) j counts room) ⌝ }
+{
+    if may_report(block, plan, cans, s, j, slot, counts, room) {
+        return false;
+    }
+    !may_exceed(block, plan, cans, s, j, slot, counts)
+}
+
+// One branch more, up to the limit.
+fn stepped(counts: Counts, limit: usize) -> Counts
+    ensures { λ o. ⌜ (o .used ≡ counts .used) × (o .readings ≡ counts .readings) × (o .least ≡ counts .least)
+        × (counts .steps ≤ o .steps) × (counts .steps ≤ limit → o .steps ≤ limit) ⌝ }
+{
+    if counts.steps < limit {
+        Counts {
+            used: counts.used,
+            readings: counts.readings,
+            least: counts.least,
+            steps: counts.steps + 1,
+        }
+    } else {
+        counts
+    }
+}
+
+fn can_fill(
+    block: &[u8],
+    plan: &[u64; firing::PLAN_ROOM],
+    cans: &[u16; records::MOST_RECORDS],
+    s: reach::Start,
+    j: usize,
+    slot: &[u8],
+) -> bool
+    requires { ⌜ (Ready (now plan) (now block) s (now slot) j) × Cans (now plan) (now block) (s .n) (s .c) (now cans) ⌝ }
+    ensures { λ r. ⌜ (r ≡ false → NeverFull (now (plan .entry)) (now (block .entry)) s (now (slot .entry)) j) ⌝ }
+{
+    true
+}
+
+fn has_room(s: reach::Start, j: usize, slot: &[u8], end: usize) -> bool
+    requires { ⌜ Reads (s .n) j (now slot) ⌝ }
+    ensures { λ r. ⌜ (r ≡ false → (plan bytes : List ℕ) → NoneOver plan bytes s (now (slot .entry)) j end) ⌝ }
+{
+    true
+}
+
+fn can_exceed(
+    block: &[u8],
+    plan: &[u64; firing::PLAN_ROOM],
+    cans: &[u16; records::MOST_RECORDS],
+    s: reach::Start,
+    j: usize,
+    slot: &[u8],
+    end: usize,
+) -> bool
+    requires { ⌜ (Ready (now plan) (now block) s (now slot) j)
+        × (Cans (now plan) (now block) (s .n) (s .c) (now cans)) × (end ≤ s .until) ⌝ }
+    ensures { λ r. ⌜ (r ≡ false → NoneOver (now (plan .entry)) (now (block .entry)) s (now (slot .entry)) j end) ⌝ }
+{
+    true
+}
+
 // ## Skip and branch
 
-// From a reading that binds variable v to record j too: on to the next record that fires.
+// From a reading that binds variable v to record j too: on to the next record that fires, and there, where something
+// can still change the answer, each firing variable in turn.
 fn skip(
     block: &[u8],
     plan: &[u64; firing::PLAN_ROOM],
@@ -132,6 +306,21 @@ fn skip(
     if slots::count_of(&bytes) == slots::MOST_BINDINGS {
         return note_over(counts, fire.at);
     }
+    if GIVE_UP <= counts.steps {
+        return counts;
+    }
+    if is_settled(
+        block,
+        plan,
+        cans,
+        s,
+        fire.at,
+        &bytes,
+        counts,
+        result.len() / 2,
+    ) {
+        return counts;
+    }
     branch(
         block,
         plan,
@@ -141,7 +330,7 @@ fn skip(
         fire.variables,
         s,
         result,
-        counts,
+        stepped(counts, s.limit),
     )
 }
 
@@ -157,7 +346,7 @@ fn branch(
     result: &mut [u8],
     counts: Counts,
 ) -> Counts
-    requires { ⌜ (Firing (now plan) (now block) s (slot .bytes) j firing)
+    requires { ⌜ (Branching (now plan) (now block) s (slot .bytes) j firing)
         × Cans (now plan) (now block) (s .n) (s .c) (now cans) ⌝ }
     ensures { λ o. ⌜ Branched (now (plan .entry)) (now (block .entry)) s (slot .bytes) j firing
         (sinkOf (now (result .entry)) counts) (sinkOf (now (result .exit)) o) ⌝ }
@@ -192,17 +381,10 @@ fn larger(a: usize, b: usize) -> usize
 }
 
 // What record i fixes as the first of a reading; no record before `opened` closes it.
-fn start_at(
-    block: &[u8],
-    n: usize,
-    c: usize,
-    duration: u64,
-    i: usize,
-    opened: usize,
-) -> reach::Start
+fn window_at(block: &[u8], duration: u64, i: usize, opened: usize) -> Window
     requires { ⌜ (i < recordCount (now block)) × (opened ≤ recordCount (now block))
         × OpenTo (now block) duration i opened ⌝ }
-    ensures { λ s. ⌜ StartIs (now (block .entry)) n c duration i s ⌝ }
+    ensures { λ s. ⌜ WindowIs (now (block .entry)) duration i s ⌝ }
 {
     let first = records::time_at(block, i);
     let count = block.len() / records::RECORD_BYTES;
@@ -210,28 +392,34 @@ fn start_at(
     while k < count {
         let r = records::unpack(block, k);
         if r.kind != records::EVENT {
-            return reach::Start {
-                n,
-                c,
+            return Window {
                 until: k,
                 mark: slots::GAP_MARK,
             };
         }
         if is_past(first, duration, r.time) {
-            return reach::Start {
-                n,
-                c,
+            return Window {
                 until: k,
                 mark: slots::PAST_MARK,
             };
         }
         k += 1;
     }
-    reach::Start {
-        n,
-        c,
+    Window {
         until: count,
         mark: slots::END_MARK,
+    }
+}
+
+// The counts before a start's first branch.
+fn begun(counts: Counts) -> Counts
+    ensures { λ o. ⌜ o ≡ record { used = counts .used; readings = counts .readings; least = counts .least; steps = 0 } ⌝ }
+{
+    Counts {
+        used: counts.used,
+        readings: counts.readings,
+        least: counts.least,
+        steps: 0,
     }
 }
 
@@ -244,18 +432,23 @@ fn each_start(
     n: usize,
     c: usize,
     duration: u64,
+    cans: &[u16; records::MOST_RECORDS],
+    floor: usize,
+    most: usize,
+    limit: usize,
     result: &mut [u8],
 ) -> Counts
-    requires { ⌜ Usable (now plan) (now block) n c ⌝ }
-    ensures { λ o. ⌜ AllStarted (now (plan .entry)) (now (block .entry)) n c duration
+    requires { ⌜ (Usable (now plan) (now block) n c) × (Cans (now plan) (now block) n c (now cans))
+        × Floor (now plan) (now block) n c duration floor ⌝ }
+    ensures { λ o. ⌜ AllStarted (now (plan .entry)) (now (block .entry)) n c duration most limit
         (sinkOf (now (result .entry)) noneYet) (sinkOf (now (result .exit)) o) ⌝ }
 {
     let mut counts = Counts {
         used: 0,
         readings: 0,
         least: NO_RECORD,
+        steps: 0,
     };
-    let cans = reach::all_can(plan, n, c, block);
     let first = reach::leaving(plan, n, 0);
     let empty = slots::empty_slot();
     let none = slots::Slot { bytes: empty };
@@ -272,22 +465,47 @@ fn each_start(
             i += 1;
             continue;
         }
-        let s = start_at(block, n, c, duration, i, opened);
-        opened = s.until;
-        counts = branch(block, plan, &cans, none, i, firing, s, result, counts);
+        let w = window_at(block, duration, i, opened);
+        opened = w.until;
+        let s = reach::Start {
+            n,
+            c,
+            duration,
+            until: w.until,
+            mark: w.mark,
+            floor,
+            most,
+            limit,
+        };
+        counts = branch(block, plan, cans, none, i, firing, s, result, begun(counts));
+        if GIVE_UP <= counts.steps {
+            return counts;
+        }
         i += 1;
     }
     counts
 }
 
-// All that is found of a checked pattern in a checked block.
-fn pass(p: patterns::Pattern, block: &[u8], result: &mut [u8]) -> Counts
+// What the answer depends on of all that is found of a checked pattern in a checked block. Counts from `most` on are not
+// told.
+fn pass(p: patterns::Pattern, block: &[u8], most: usize, result: &mut [u8]) -> Counts
     requires { ⌜ (InOrder p) × BlockInOrder (now block) ⌝ }
-    ensures { λ o. ⌜ sinkOf (now (result .exit)) o
-        ≡ emits (sinkOf (now (result .entry)) noneYet) (foundAll p (recordsOf (now (block .entry)))) ⌝ }
+    ensures { λ o. ⌜ Passed p (now (block .entry)) most (length (now (result .entry))) (sinkOf (now (result .exit)) o) ⌝ }
 {
     let plan = firing::plan_of(p);
-    each_start(block, &plan, p.n, p.c, p.duration, result)
+    let cans = reach::all_can(&plan, p.n, p.c, block);
+    each_start(
+        block,
+        &plan,
+        p.n,
+        p.c,
+        p.duration,
+        &cans,
+        0,
+        most,
+        PATIENCE,
+        result,
+    )
 }
 
 // ## The calls
@@ -362,7 +580,7 @@ pub fn start_by_start(pattern: &[u8], block: &[u8], result: &mut [u8]) -> record
     if input.code != 0 {
         return refuse(result, input);
     }
-    let counts = pass(checked.pattern, block, result);
+    let counts = pass(checked.pattern, block, 0, result);
     finish(result, counts)
 }
 
@@ -379,5 +597,5 @@ pub fn measure(pattern: &[u8], block: &[u8]) -> records::Answer
         return input;
     }
     let mut none = [0u8; 1];
-    measured(pass(checked.pattern, block, &mut none[0..0]))
+    measured(pass(checked.pattern, block, MOST_COUNTED, &mut none[0..0]))
 }

@@ -4,12 +4,14 @@ use borrow.Author.Needs.{needs}
 use native.Mathlib.Omega.{arith}
 use Prim.Native.Nat.{ℕ, _<_, _-_, _*_}
 use mathlib.Core.Path.{_≡_, refl, _∙_}
+use mathlib.Core.Bool.{true}
 use lib.ListN.{length}
+use Rattle.numbers.specs.Bits.{bit}
 use Rattle.starts.specs.Sinks.{Sink, sinkOf}
 use Rattle.starts.specs.Skips.{Firing, Branched}
 use Rattle.reach.proofs.MaskInTurn.{rest-less}
-use Rattle.starts.proofs.Skips.{branch-done, lowest-taking, branch-takes, rest-firing, grown-ready, grown-closes}
-use Rattle.starts.proofs.Skips.{skip-closes, skip-notes, next-firing, skip-branches}
+use Rattle.starts.proofs.Skips.{branch-done, firing-taking, branch-takes, rest-firing, rest-within, grown-ready, grown-closes}
+use Rattle.starts.proofs.Skips.{skip-closes, skip-notes, next-branching, skip-given-up, skip-settled, skip-branches}
 use borrow.Fn.Kinds.{In}
 use borrow.Fn.PlainCycle.{Measures, is, falls, and}
 use Rattle.numbers.proofs.lowest_bit.Reads as lowest-bit-reads
@@ -23,6 +25,8 @@ use Rattle.starts.proofs.skip.Reads as skip
 use Rattle.starts.proofs.skip.Kinds as skip-kinds
 use Rattle.starts.proofs.+branch+skip.Lts-skip as skip-lts
 use Rattle.starts.proofs.close.Reads as close-reads
+use Rattle.starts.proofs.is_settled.Reads as is-settled-reads
+use Rattle.starts.proofs.stepped.Reads as stepped-reads
 use Rattle.reach.proofs.next_fire.Reads as next-fire-reads
 use Rattle.starts.proofs.note_over.Reads as note-over-reads
 use Rattle.starts.proofs.+branch+skip.{statement}
@@ -70,26 +74,27 @@ of-skip t = (
   count-of-reads.Learnt,
   note-over-reads.Asked,
   note-over-reads.Learnt,
+  is-settled-reads.Asked,
+  is-settled-reads.Learnt,
+  stepped-reads.Asked,
+  stepped-reads.Learnt,
   branch-below t,
   branch.Post,
 )
 
 abbrev branch-Inv-loop : branch-lts.InvT-loop
-branch-Inv-loop block plan cans slot j firing s result₀ taken₀ rest₀ result taken rest = (length result ≡ length result₀) × Firing plan block s (slot .bytes) j rest × ((after : Sink) → Branched plan block s (slot .bytes) j rest (sinkOf result taken) after → Branched plan block s (slot .bytes) j firing (sinkOf result₀ taken₀) after)
+branch-Inv-loop block plan cans slot j firing s result₀ taken₀ rest₀ result taken rest = (length result ≡ length result₀) × Firing plan block s (slot .bytes) j rest × ((u : ℕ) → bit rest u ≡ true → bit firing u ≡ true) × ((after : Sink) → Branched plan block s (slot .bytes) j rest (sinkOf result taken) after → Branched plan block s (slot .bytes) j firing (sinkOf result₀ taken₀) after)
 
 abbrev branch-μ-loop : branch-lts.MeasureT-loop
 branch-μ-loop block plan cans slot j firing s result₀ taken₀ rest₀ result taken rest = rest
 
-branch-loop-holds :
-    (t : ℕ) → branch-lts.Need-loop-holds (of-branch t) (branch-at t) branch.Post branch-Inv-loop branch-μ-loop
-branch-loop-holds t c = (refl, c .before .before .pre .1 .0, λ after b. b)
+branch-loop-holds : (t : ℕ) → branch-lts.Need-loop-holds (of-branch t) (branch-at t) branch.Post branch-Inv-loop branch-μ-loop
+branch-loop-holds t c = (refl, c .before .before .pre .1 .0 .fire, λ u h. h, λ after b. b)
 
-branch-lowest-bit-requires :
-    (t : ℕ) → branch-lts.Need-lowest-bit-requires (of-branch t) (branch-at t) branch.Post branch-Inv-loop branch-μ-loop
+branch-lowest-bit-requires : (t : ℕ) → branch-lts.Need-lowest-bit-requires (of-branch t) (branch-at t) branch.Post branch-Inv-loop branch-μ-loop
 branch-lowest-bit-requires t c κs = search needs
 
-branch-skip-requires :
-    (t : ℕ) → branch-lts.Need-skip-requires (of-branch t) (branch-at t) branch.Post branch-Inv-loop branch-μ-loop
+branch-skip-requires : (t : ℕ) → branch-lts.Need-skip-requires (of-branch t) (branch-at t) branch.Post branch-Inv-loop branch-μ-loop
 branch-skip-requires t c κs =
     let st = c .before .before .before .before .before .before in
     let a = st .args in
@@ -98,14 +103,12 @@ branch-skip-requires t c κs =
     let low = c .before .lowest-bit in
     let end = at .before in
     let same = st .pre .0 in
-    (omega arith, (lowest-taking (a .plan .now) (a .block .now) (a .s) (a .slot .bytes) (a .j) (h .rest) (low .result) at (low .ensures), st .pre .1 .1))
+    (omega arith, (firing-taking (a .plan .now) (a .block .now) (a .s) (a .slot .bytes) (a .j) (a .firing) (st .pre .1 .0) (low .result) (h .inv .2 (low .result) (low .ensures .here)), st .pre .1 .1))
 
-branch-without-bit-requires :
-    (t : ℕ) → branch-lts.Need-without-bit-requires (of-branch t) (branch-at t) branch.Post branch-Inv-loop branch-μ-loop
+branch-without-bit-requires : (t : ℕ) → branch-lts.Need-without-bit-requires (of-branch t) (branch-at t) branch.Post branch-Inv-loop branch-μ-loop
 branch-without-bit-requires t c κs = c .before .before .before .before .lowest-bit .ensures .small
 
-branch-loop-less :
-    (t : ℕ) → branch-lts.Need-loop-less (of-branch t) (branch-at t) branch.Post branch-Inv-loop branch-μ-loop
+branch-loop-less : (t : ℕ) → branch-lts.Need-loop-less (of-branch t) (branch-at t) branch.Post branch-Inv-loop branch-μ-loop
 branch-loop-less t c =
     let h = c .before .before .before .before .before .before .before .loop in
     let some = c .before .before .before .before .before .before .loop-test .taken in
@@ -114,8 +117,7 @@ branch-loop-less t c =
     let is = c .without-bit .ensures in
     omega arith
 
-branch-loop-again :
-    (t : ℕ) → branch-lts.Need-loop-again (of-branch t) (branch-at t) branch.Post branch-Inv-loop branch-μ-loop
+branch-loop-again : (t : ℕ) → branch-lts.Need-loop-again (of-branch t) (branch-at t) branch.Post branch-Inv-loop branch-μ-loop
 branch-loop-again t c =
     let a = c .before .before .before .before .before .before .before .before .before .before .args in
     let h = c .before .before .before .before .before .before .before .loop in
@@ -125,22 +127,22 @@ branch-loop-again t c =
     let rest = c .without-bit in (
       call .kept .1 .1 .1 .1 .1 .1 .1 .0 ∙ h .inv .0,
       rest-firing (a .plan .now) (a .block .now) (a .s) (a .slot .bytes) (a .j) (h .rest) (low .result) at (low .ensures) (rest .result) (rest .ensures),
+      λ u b. h .inv .2 u (rest-within (a .plan .now) (a .block .now) (a .s) (a .slot .bytes) (a .j) (h .rest) (low .result) at (low .ensures) (rest .result) (rest .ensures) u b),
       λ after others.
-          h .inv .2 after
+          h .inv .3 after
           (branch-takes (a .plan .now) (a .block .now) (a .s) (a .slot .bytes) (a .j) (h .rest) (low .result) at (low .ensures)
           (rest .result) (sinkOf (h .result) (h .taken)) (sinkOf (call .last .1 .1 .1 .1 .1 .1 .1 .0) (call .result)) after
           (rest .ensures) (call .ensures) others),
     )
 
-branch-same-length :
-    (t : ℕ) → branch-lts.Need-same-length (of-branch t) (branch-at t) branch.Post branch-Inv-loop branch-μ-loop
+branch-same-length : (t : ℕ) → branch-lts.Need-same-length (of-branch t) (branch-at t) branch.Post branch-Inv-loop branch-μ-loop
 branch-same-length t c = search needs
 
 branch-returns : (t : ℕ) → branch-lts.Need-returns (of-branch t) (branch-at t) branch.Post branch-Inv-loop branch-μ-loop
 branch-returns t c =
     let a = c .before .before .before .before .args in
     let h = c .before .loop in
-    h .inv .2 (sinkOf (h .result) (h .taken))
+    h .inv .3 (sinkOf (h .result) (h .taken))
     (branch-done (a .plan .now) (a .block .now) (a .s) (a .slot .bytes) (a .j) (h .rest) (sinkOf (h .result) (h .taken)) (c .loop-test .left))
 
 skip-slice-aggregate-bind : (t : ℕ) → skip-lts.Need-slice-aggregate-bind (of-skip t) (skip-at t) skip.Post
@@ -218,19 +220,59 @@ skip-returns-2 t c =
     let count = c .before .before .count-of in
     let note = c .note-over in
     skip-notes (a .plan .now) (a .block .now) (a .s) (a .slot .bytes) (a .j) (a .v) (st .pre .1 .0) (more .last .0) (more .ensures) (next .result) (next .ensures)
-    (c .before .before .before .before .if1 .left) (omega (arith, count .ensures, c .before .if2 .taken)) (a .result .now) (a .counts) (note .result) (note .ensures .0) (note .ensures .1) (note .ensures .2)
+    (c .before .before .before .before .if1 .left) (omega (arith, count .ensures, c .before .if2 .taken)) (a .result .now) (a .counts) (note .result) (note .ensures .0) (note .ensures .1) (note .ensures .2) (note .ensures .3)
+
+skip-returns-3 : (t : ℕ) → skip-lts.Need-returns-3 (of-skip t) (skip-at t) skip.Post
+skip-returns-3 t c =
+    let st = c .before .before .before .before .before .before .before .before .before .before .before .before .before .before .before .before in
+    let a = st .args in
+    let more = c .before .before .before .before .before .before .before .before .before .before .before .bind in
+    let next = c .before .before .before .before .before .before .before .before .next-fire in
+    let count = c .before .before .before .count-of .ensures in
+    let full = c .before .before .if2 .left in
+    let before = c .before .before .before .before .before .if1 .left in
+    skip-given-up (a .plan .now) (a .block .now) (a .s) (a .slot .bytes) (a .j) (a .v) (st .pre .1 .0) (more .last .0) (more .ensures) (next .result) (next .ensures) before (λ e. full (count ∙ e)) (sinkOf (a .result .now) (a .counts)) (c .if3 .taken)
+
+skip-slice-aggregate-is-settled : (t : ℕ) → skip-lts.Need-slice-aggregate-is-settled (of-skip t) (skip-at t) skip.Post
+skip-slice-aggregate-is-settled t c = search needs
+
+skip-is-settled-requires : (t : ℕ) → skip-lts.Need-is-settled-requires (of-skip t) (skip-at t) skip.Post
+skip-is-settled-requires t c κs =
+    let st = c .before .before .before .before .before .before .before .before .before .before .before .before .before .before .before .before .before in
+    let a = st .args in
+    let more = c .before .before .before .before .before .before .before .before .before .before .before .before .bind in
+    let next = c .before .before .before .before .before .before .before .before .before .next-fire in
+    let count = c .before .before .before .before .count-of .ensures in
+    let full = c .before .before .before .if2 .left in
+    let before = c .before .before .before .before .before .before .if1 .left in
+    let at = next-branching (a .plan .now) (a .block .now) (a .s) (a .slot .bytes) (a .j) (a .v) (st .pre .1 .0) (more .last .0) (more .ensures) (next .result) (next .ensures) before (λ e. full (count ∙ e)) in
+    (at .fire .ready, st .pre .1 .1, at .above)
+
+skip-returns-4 : (t : ℕ) → skip-lts.Need-returns-4 (of-skip t) (skip-at t) skip.Post
+skip-returns-4 t c =
+    let st = c .before .before .before .before .before .before .before .before .before .before .before .before .before .before .before .before .before .before .before in
+    let a = st .args in
+    let more = c .before .before .before .before .before .before .before .before .before .before .before .before .before .before .bind in
+    let next = c .before .before .before .before .before .before .before .before .before .before .before .next-fire in
+    let count = c .before .before .before .before .before .before .count-of .ensures in
+    let full = c .before .before .before .before .before .if2 .left in
+    let before = c .before .before .before .before .before .before .before .before .if1 .left in
+    skip-settled (a .plan .now) (a .block .now) (a .s) (a .slot .bytes) (a .j) (a .v) (st .pre .1 .0) (more .last .0) (more .ensures) (next .result) (next .ensures) before (λ e. full (count ∙ e)) (a .result .now) (a .counts) (c .before .is-settled .ensures (c .if4 .taken)) (omega (arith, c .before .before .before .before .struct-known3)) (omega (arith, c .before .before .before .before .struct-known3))
+
+skip-stepped-requires : (t : ℕ) → skip-lts.Need-stepped-requires (of-skip t) (skip-at t) skip.Post
+skip-stepped-requires t c κs = search needs
 
 skip-branch-requires : (t : ℕ) → skip-lts.Need-branch-requires (of-skip t) (skip-at t) skip.Post
 skip-branch-requires t c κs =
-    let st = c .before .before .before .before .before .before .before .before .before .before .before .before .before .before .before in
+    let st = c .before .before .before .before .before .before .before .before .before .before .before .before .before .before .before .before .before .before .before .before .before in
     let a = st .args in
-    let more = c .before .before .before .before .before .before .before .before .before .before .bind in
-    let next = c .before .before .before .before .before .before .before .next-fire in
-    let count = c .before .before .count-of .ensures in
-    let full = c .before .if2 .left in
-    let at = next-firing (a .plan .now) (a .block .now) (a .s) (a .slot .bytes) (a .j) (a .v) (st .pre .1 .0) (more .last .0) (more .ensures) (next .result) (next .ensures)
-    (c .before .before .before .before .if1 .left) (λ e. full (count ∙ e)) in
-    let before = at .before in
+    let more = c .before .before .before .before .before .before .before .before .before .before .before .before .before .before .before .before .bind in
+    let next = c .before .before .before .before .before .before .before .before .before .before .before .before .before .next-fire in
+    let count = c .before .before .before .before .before .before .before .before .count-of .ensures in
+    let full = c .before .before .before .before .before .before .before .if2 .left in
+    let before = c .before .before .before .before .before .before .before .before .before .before .if1 .left in
+    let at = next-branching (a .plan .now) (a .block .now) (a .s) (a .slot .bytes) (a .j) (a .v) (st .pre .1 .0) (more .last .0) (more .ensures) (next .result) (next .ensures) before (λ e. full (count ∙ e)) in
+    let end = at .fire .before in
     let from = next .ensures .from in
     let same = st .pre .0 in
     (omega arith, (at, st .pre .1 .1))
@@ -238,17 +280,19 @@ skip-branch-requires t c κs =
 skip-same-length-2 : (t : ℕ) → skip-lts.Need-same-length-2 (of-skip t) (skip-at t) skip.Post
 skip-same-length-2 t c = search needs
 
-skip-returns-3 : (t : ℕ) → skip-lts.Need-returns-3 (of-skip t) (skip-at t) skip.Post
-skip-returns-3 t c =
-    let st = c .before .before .before .before .before .before .before .before .before .before .before .before .before .before .before .before .before .before in
+skip-returns-5 : (t : ℕ) → skip-lts.Need-returns-5 (of-skip t) (skip-at t) skip.Post
+skip-returns-5 t c =
+    let st = c .before .before .before .before .before .before .before .before .before .before .before .before .before .before .before .before .before .before .before .before .before .before .before .before in
     let a = st .args in
-    let more = c .before .before .before .before .before .before .before .before .before .before .before .before .before .bind in
-    let next = c .before .before .before .before .before .before .before .before .before .before .next-fire in
-    let count = c .before .before .before .before .before .count-of .ensures in
-    let full = c .before .before .before .before .if2 .left in
+    let more = c .before .before .before .before .before .before .before .before .before .before .before .before .before .before .before .before .before .before .before .bind in
+    let next = c .before .before .before .before .before .before .before .before .before .before .before .before .before .before .before .before .next-fire in
+    let count = c .before .before .before .before .before .before .before .before .before .before .before .count-of .ensures in
+    let full = c .before .before .before .before .before .before .before .before .before .before .if2 .left in
+    let before = c .before .before .before .before .before .before .before .before .before .before .before .before .before .if1 .left in
+    let o = c .before .before .before .stepped in
     let call = c .before .before .branch in
-    skip-branches (a .plan .now) (a .block .now) (a .s) (a .slot .bytes) (a .j) (a .v) (st .pre .1 .0) (more .last .0) (more .ensures) (next .result) (next .ensures)
-    (c .before .before .before .before .before .before .before .if1 .left) (λ e. full (count ∙ e)) (sinkOf (a .result .now) (a .counts)) (sinkOf (call .last .1 .1 .1 .1 .1 .1 .1 .0) (call .result)) (call .ensures)
+    skip-branches (a .plan .now) (a .block .now) (a .s) (a .slot .bytes) (a .j) (a .v) (st .pre .1 .0) (more .last .0) (more .ensures) (next .result) (next .ensures) before (λ e. full (count ∙ e)) (a .result .now) (a .counts) (o .result) (o .ensures .0) (o .ensures .1) (o .ensures .2) (o .ensures .3) (o .ensures .4)
+    (sinkOf (call .last .1 .1 .1 .1 .1 .1 .1 .0) (call .result)) (call .ensures)
 
 pub +branch+skip-spec : {M : Type 1} → statement M
 +branch+skip-spec =
@@ -280,6 +324,11 @@ pub +branch+skip-spec : {M : Type 1} → statement M
     (skip-count-of-requires t)
     (skip-note-over-requires t)
     (skip-returns-2 t)
+    (skip-returns-3 t)
+    (skip-slice-aggregate-is-settled t)
+    (skip-is-settled-requires t)
+    (skip-returns-4 t)
+    (skip-stepped-requires t)
     (skip-branch-requires t)
     (skip-same-length-2 t)
-    (skip-returns-3 t))
+    (skip-returns-5 t))

@@ -1,10 +1,10 @@
 -- `starts::close` meets its contract: a reading is reported where its state is full. Assumes nothing.
-use mathlib.Core.Path.{sym, ap, _∙_}
+use mathlib.Core.Path.{refl, sym, ap, _∙_}
 use Prim.Native.Nat.{ℕ, _-_, _^_}
 use Rattle.numbers.specs.Bits.{within}
 use Rattle.rule.proofs.SkipBranch.{close-full, close-part}
 use Rattle.slots.specs.Slots.{heldIn}
-use Rattle.starts.specs.Sinks.{sinkOf, emits}
+use Rattle.starts.specs.Sinks.{Sink, sinkOf, emit, emits}
 use Rattle.reach.proofs.Readings.{full-is}
 use borrow.Author.Needs.{needs}
 use Rattle.starts.proofs.close.Statement.{statement}
@@ -23,12 +23,13 @@ same-length : tie.Need-same-length
 same-length c = search needs
 
 returns : tie.Need-returns
-unfolding emits
+unfolding emits emit
 returns c =
     let st = c .before .before .before .before .before .before .before .before .before in
     let a = st .args in
     let slot = a .slot .now in
     record {
+      steps = ap (λ (x : Sink). x .steps) (c .before .before .report .ensures);
       found = λ p e.
           c .before .before .report .ensures
           ∙ ap (emits (sinkOf (a .result .now) (a .counts)))
@@ -45,6 +46,7 @@ returns-2 c =
     let a = st .args in
     let slot = a .slot .now in
     record {
+      steps = refl;
       found = λ p e.
           ap (emits (sinkOf (a .result .now) (a .counts)))
           (sym (close-part p (a .s .mark) (heldIn slot .bindings)

@@ -55,7 +55,7 @@ returns-3 c =
     let input = c .before .before .before .before .before .before .check-block in
     let run = c .before .before .pass in
     measure-answered (a .pattern .now) (a .block .now) (checked .result) (checked .ensures) (c .before .before .before .before .before .before .before .if1 .left) (input .result) (input .ensures) (c .before .before .before .before .if2 .left)
-    _ (run .last .1 .1 .0) (run .result) (run .ensures) (c .measured .result) (c .measured .ensures)
+    _ (run .last .1 .1 .1 .0) (run .result) (run .ensures) (c .measured .result) (c .measured .ensures)
 
 pub measure-spec : {M : Type 1} → statement M
 measure-spec =

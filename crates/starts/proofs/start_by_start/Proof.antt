@@ -68,7 +68,7 @@ returns-3 c =
     let run = c .before .before .before .before .before .before .pass in
     let last = c .before .before .finish in
     call-answered (a .pattern .now) (a .block .now) (checked .result) (checked .ensures) (c .before .before .before .before .before .before .before .before .before .before .before .if1 .left) (input .result) (input .ensures) (c .before .before .before .before .before .before .before .before .if2 .left)
-    (a .result .now) (run .last .1 .1 .0) (run .result) (run .ensures) (run .kept .1 .1 .0) (omega arith) (last .result) (last .last .0) (last .ensures .0) (last .ensures .1)
+    (length (a .result .now)) (run .last .1 .1 .1 .0) (run .result) (run .ensures) (omega arith) (last .result) (last .last .0) (last .ensures .0) (last .ensures .1)
 
 pub start-by-start-spec : {M : Type 1} → statement M
 start-by-start-spec =

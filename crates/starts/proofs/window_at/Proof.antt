@@ -1,21 +1,21 @@
--- `starts::start_at` meets its contract: the first gap, the first record past the window, or the end. Assumes nothing.
+-- `starts::window_at` meets its contract: the first gap, the first record past the window, or the end. Assumes nothing.
 use native.Mathlib.Omega.{arith}
 use mathlib.Core.Path.{_≡_, refl, sym, ap, subst, _∙_}
 use Prim.Native.Nat.{ℕ, _+_, _-_, _≤_, _<_}
 use borrow.Author.Tests.{ltb-false}
 use Rattle.records.specs.declared.Record.{Record}
 use Rattle.records.specs.Records.{recordAt, recordCount}
-use Rattle.starts.specs.Skips.{OpenTo}
-use Rattle.starts.proofs.Windows.{open-from, open-more, start-gap, start-past, start-end}
+use Rattle.starts.specs.Skips.{OpenTo, WindowIs}
+use Rattle.starts.proofs.Windows.{open-from, open-more, window-gap, window-past, window-end}
 use borrow.Author.Needs.{needs}
-use Rattle.starts.proofs.start_at.Statement.{statement}
-use Rattle.starts.proofs.start_at.Tie as tie
+use Rattle.starts.proofs.window_at.Statement.{statement}
+use Rattle.starts.proofs.window_at.Tie as tie
 
 abbrev Inv-loop : tie.InvT-loop
-Inv-loop block n c duration i opened first count k₀ k = (i < k) × (k ≤ count) × (count ≡ recordCount block) × (first ≡ recordAt block i .time) × OpenTo block duration i k
+Inv-loop block duration i opened first count k₀ k = (i < k) × (k ≤ count) × (count ≡ recordCount block) × (first ≡ recordAt block i .time) × OpenTo block duration i k
 
 abbrev μ-loop : tie.MeasureT-loop
-μ-loop block n c duration i opened first count k₀ k = count - k
+μ-loop block duration i opened first count k₀ k = count - k
 
 time-at-requires : tie.Need-time-at-requires Inv-loop μ-loop
 time-at-requires c κs = omega arith
@@ -47,7 +47,7 @@ returns c =
     let h = c .before .before .before .before .loop in
     let r = c .before .before .unpack in
     let kind = ap (λ (x : Record). x .kind) (r .ensures) in
-    start-gap (a .block .now) (a .duration) (a .i) (h .k) (h .inv .0) (omega arith) (h .inv .4) (a .n) (a .c) (omega arith) (λ e. c .if1 .taken (kind ∙ e))
+    window-gap (a .block .now) (a .duration) (a .i) (h .k) (h .inv .0) (omega arith) (h .inv .4) (omega arith) (λ e. c .if1 .taken (kind ∙ e))
 
 is-past-requires : tie.Need-is-past-requires Inv-loop μ-loop
 is-past-requires c κs = search needs
@@ -60,7 +60,7 @@ returns-2 c =
     let kind = ap (λ (x : Record). x .kind) (r .ensures) in
     let time = ap (λ (x : Record). x .time) (r .ensures) in
     let past = sym (c .before .is-past .ensures) ∙ c .if2 .taken in
-    start-past (a .block .now) (a .duration) (a .i) (h .k) (h .inv .0) (omega arith) (h .inv .4) (a .n) (a .c) (omega arith) (sym kind ∙ c .before .before .if1 .left)
+    window-past (a .block .now) (a .duration) (a .i) (h .k) (h .inv .0) (omega arith) (h .inv .4) (omega arith) (sym kind ∙ c .before .before .if1 .left)
     (rw (sym (h .inv .3), sym time) past)
 
 add-k : tie.Need-add-k Inv-loop μ-loop
@@ -91,11 +91,11 @@ returns-3 c =
     let a = c .before .before .before .before .before .args in
     let h = c .before .loop in
     let e : h .k ≡ recordCount (a .block .now) = omega (arith, c .loop-test .left) in
-    subst (λ (k : ℕ). Rattle.starts.specs.Skips.StartIs (a .block .now) (a .n) (a .c) (a .duration) (a .i) (record { n = a .n; c = a .c; until = k; mark = 2 })) e
-    (start-end (a .block .now) (a .duration) (a .i) (h .k) (h .inv .0) (omega arith) (h .inv .4) (a .n) (a .c) (omega arith))
+    subst (λ (k : ℕ). WindowIs (a .block .now) (a .duration) (a .i) (record { until = k; mark = 2 })) e
+    (window-end (a .block .now) (a .duration) (a .i) (h .k) (h .inv .0) (omega arith) (h .inv .4) (omega arith))
 
-pub start-at-spec : {M : Type 1} → statement M
-start-at-spec =
+pub window-at-spec : {M : Type 1} → statement M
+window-at-spec =
     tie.close
     (tie.spec
     Inv-loop
