@@ -9,14 +9,14 @@ use lib.Bits.{bitAnd}
 use lib.Dec.{eqb}
 use lib.ListN.{length, getD}
 use Rattle.numbers.specs.Numbers.{count}
-use Rattle.numbers.specs.Bits.{bit, mask}
+use Rattle.numbers.specs.Bits.{bit}
 use Rattle.numbers.proofs.Cases.{by-test, by-order, both}
 use Rattle.numbers.proofs.Bits.{bit-and, mask-inside}
 use Rattle.records.specs.Records.{recordCount, recordsOf}
 use Rattle.patterns.specs.declared.Pattern.{Pattern}
 use Rattle.patterns.specs.Patterns.{mostVariables}
 use Rattle.automaton.proofs.Membership.{clash}
-use Rattle.rule.specs.Rule.{Block, Reading, binds}
+use Rattle.rule.specs.Rule.{Block, Reading, binds, fires}
 use Rattle.rule.specs.Promises.{mostBindings}
 use Rattle.rule.specs.Starts.{withBinding}
 use Rattle.slots.specs.Slots.{Held, stateIn, heldIn, holding}
@@ -147,8 +147,9 @@ few-first plan bytes n c r j t l =
     }
 
 module _ (plan bytes : List ℕ) (n c : ℕ) (few : n ≤ mostVariables) (r : Reading) (j : ℕ)
-    (below : (p : Pattern) → Of p plan bytes n c → ReadBelow p j r) (i : ℕ) (from : j ≤ i) (inside : i < recordCount bytes)
-    (can : ℕ) (is : can ≡ canBy plan n c bytes i) (o : Open) (known : IsOpen plan n (holding r .state) o) (t u : Tally)
+    (below : (p : Pattern) → Of p plan bytes n c → ReadBelow p j r) (i : ℕ) (from : j ≤ i)
+    (inside : i < recordCount bytes) (can : ℕ) (is : can ≡ canBy plan n c bytes i) (o : Open)
+    (known : IsOpen plan n (holding r .state) o) (t u : Tally)
     (counted : Counted plan bytes i can o r t u) (before : Few plan bytes n c r j i t) where
   next-each :
       (p : Pattern) → Of p plan bytes n c → (q : Reading) (k : ℕ) → k ≡ suc i → Grows p (recordsOf bytes) r j q k
@@ -161,7 +162,7 @@ module _ (plan bytes : List ℕ) (n c : ℕ) (few : n ≤ mostVariables) (r : Re
   next-each p of q k e (takes m v s b a g f) =
       let z : m ≡ i = omega arith in
       let g′ = subst (λ (x : ℕ). Grows p (recordsOf bytes) r j s x) z g in
-      let f′ = subst (λ (x : ℕ). Rattle.rule.specs.Rule.fires p (recordsOf bytes) s v x ≡ true) z f in
+      let f′ = subst (λ (x : ℕ). fires p (recordsOf bytes) s v x ≡ true) z f in
       subst (λ (x : Reading). Bounded plan n r x u) (sym (a ∙ ap (withBinding s v) z))
       (stepped plan bytes n c i can is o r known s v
       (taken p plan bytes n c of few r j (below p of) s i v inside g′ f′) t u counted (before .each p of s g′))

@@ -1,11 +1,10 @@
 -- Two tests of which one passes wherever the other does, counted. Assumes nothing.
 use mathlib.Core.Path.{_≡_, refl, ap}
 use mathlib.Core.Bool.{Bool, true, false}
-use Prim.Native.Nat.{ℕ, zero, suc, _+_, _≤_, _<_}
+use Prim.Native.Nat.{ℕ, zero, suc, _≤_, _<_}
 use native.Mathlib.Omega.{arith}
 use Rattle.numbers.specs.Numbers.{count, oneIf}
 use Rattle.numbers.proofs.Cases.{by-order}
-use Rattle.automaton.proofs.Membership.{clash}
 
 one-more : (s t : Bool) → (s ≡ true → t ≡ true) → oneIf s ≤ oneIf t
 one-more true t h = omega (arith, ap oneIf (h refl))

@@ -36,7 +36,8 @@ none-over s slot j end few plan bytes =
     }
 
 -- no record is left
-pub none-left : (s : Start) (slot : List ℕ) (j end : ℕ) → end ≤ j → (plan bytes : List ℕ) → NoneOver plan bytes s slot j end
+pub none-left :
+    (s : Start) (slot : List ℕ) (j end : ℕ) → end ≤ j → (plan bytes : List ℕ) → NoneOver plan bytes s slot j end
 none-left s slot j end none plan bytes =
     record {
       few = λ p o q i v g l f.

@@ -1,5 +1,5 @@
--- What a step that a grown reading takes says of the reading that was at hand: its variable joins what was bound then, and
--- could be bound, again or once. Assumes nothing.
+-- What a step that a grown reading takes says of the reading that was at hand: its variable joins what was bound then,
+-- and could be bound, again or once. Assumes nothing.
 use mathlib.Core.Path.{_≡_, refl, sym, ap, ap₂, subst, _∙_}
 use mathlib.Core.Bool.{Bool, true, false, not, _&&_, _||_}
 use mathlib.Core.List.{List}
@@ -8,7 +8,7 @@ use native.Mathlib.Omega.{arith}
 use borrow.Author.Tests.{eqb-true, eq-eqb}
 use lib.Dec.{eqb}
 use lib.Pow.{pow-lt}
-use Rattle.numbers.specs.Bits.{bit, disjoint}
+use Rattle.numbers.specs.Bits.{bit}
 use Rattle.numbers.proofs.Cases.{by-test}
 use Rattle.numbers.proofs.Bits.{bit-weight, disjoint-of, disjoint-true, mask-bound}
 use Rattle.records.specs.Records.{recordCount, recordsOf}
@@ -47,7 +47,8 @@ grows-binds p B r j q i (takes k w o e a g f) v b =
 
 module _ (plan : List ℕ) where
   -- one that is bound and leaves may be bound more than once
-  pub bound-loops : (state v : ℕ) → v < mostVariables → bit state v ≡ true → leavesBy plan state v ≡ true → loopsBy plan v ≡ true
+  pub bound-loops :
+      (state v : ℕ) → v < mostVariables → bit state v ≡ true → leavesBy plan state v ≡ true → loopsBy plan v ≡ true
   unfolding loopsBy
   bound-loops state v l e h =
       let free : bit (afterIn plan v) v ≡ false =
@@ -82,8 +83,8 @@ pub record Taken (plan bytes : List ℕ) (n c : ℕ) (r o : Reading) (i v : ℕ)
   pub once : loopsBy plan v ≡ false → onceBy plan (holding r .state) v ≡ true
   pub new : loopsBy plan v ≡ false → binds o v ≡ false
 
-module _ (p : Pattern) (plan bytes : List ℕ) (n c : ℕ) (of : Of p plan bytes n c) (few : n ≤ mostVariables) (r : Reading)
-    (j : ℕ) (known : ReadBelow p j r) (o : Reading) (i v : ℕ) (l : i < recordCount bytes)
+module _ (p : Pattern) (plan bytes : List ℕ) (n c : ℕ) (of : Of p plan bytes n c) (few : n ≤ mostVariables)
+    (r : Reading) (j : ℕ) (known : ReadBelow p j r) (o : Reading) (i v : ℕ) (l : i < recordCount bytes)
     (g : Grows p (recordsOf bytes) r j o i) (f : fires p (recordsOf bytes) o v i ≡ true) where
   abbrev inside : v < n
   inside = omega (arith, fires-variable p (recordsOf bytes) o v i f, of .variables)

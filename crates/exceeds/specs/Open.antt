@@ -1,4 +1,5 @@
--- What a reading can still bind, by its state, and how a record is counted. No promise of a public call names this file.
+-- What a reading can still bind, by its state, and how a record is counted. No promise of a public call names this
+-- file.
 use mathlib.Core.Path.{_≡_}
 use mathlib.Core.Bool.{Bool, true, false, not, _&&_, _||_}
 use mathlib.Core.List.{List}

@@ -142,8 +142,8 @@ fn count_record(
 ) -> Tally
     requires { ⌜ (can < 2 ^ mostVariables) × Fit (now plan) (now block) i (now slot)
         × (t .many + t .single ≤ mostBindings) ⌝ }
-    ensures { λ u. ⌜ Counted (now (plan .entry)) (now (block .entry)) i can variables (heldIn (now (slot .entry)) .bindings)
-        t u ⌝ }
+    ensures { λ u. ⌜ Counted (now (plan .entry)) (now (block .entry)) i can variables
+        (heldIn (now (slot .entry)) .bindings) t u ⌝ }
 {
     if any_joins(block, plan, i, can & variables.again, slot) {
         return Tally {

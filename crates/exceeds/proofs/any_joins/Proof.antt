@@ -1,7 +1,7 @@
 -- `exceeds::any_joins` meets its contract. The loop's invariant: of the variables asked, those that are left out do not
 -- join. Assumes nothing.
 use native.Mathlib.Omega.{arith}
-use mathlib.Core.Path.{_≡_, sym, ap, subst, _∙_}
+use mathlib.Core.Path.{_≡_, sym, ap, _∙_}
 use mathlib.Core.Bool.{true, false, true≢false}
 use Prim.Native.Nat.{ℕ, _^_, _<_}
 use Rattle.numbers.specs.Bits.{bit}

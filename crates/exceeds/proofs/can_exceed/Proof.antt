@@ -1,7 +1,7 @@
--- `exceeds::can_exceed` meets its contract. The loop's invariant: no reading that the slot's can have become before record
--- i has more bindings than are counted. Assumes nothing.
+-- `exceeds::can_exceed` meets its contract. The loop's invariant: no reading that the slot's can have become before
+-- record i has more bindings than are counted. Assumes nothing.
 use native.Mathlib.Omega.{arith}
-use mathlib.Core.Path.{subst, sym}
+use mathlib.Core.Path.{subst}
 use mathlib.Core.Bool.{true≢false}
 use Prim.Native.Nat.{ℕ, _+_, _-_, _≤_}
 use Rattle.rule.specs.Promises.{mostBindings}

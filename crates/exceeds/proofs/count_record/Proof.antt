@@ -12,7 +12,7 @@ any-joins-requires : tie.Need-any-joins-requires
 any-joins-requires c κs =
     let st = c .before .before .before in
     let a = st .args in
-    (lt-of-le-of-lt (and-le-l (a .can) (a .variables .again)) (st .pre .0), st .pre .1)
+    (lt-of-le-of-lt (and-le-l (a .can) _) (st .pre .0), st .pre .1)
 
 add-t10 : tie.Need-add-t10
 add-t10 c = search needs
@@ -27,7 +27,7 @@ any-joins-requires-2 : tie.Need-any-joins-requires-2
 any-joins-requires-2 c κs =
     let st = c .before .before .before .before .before .before .before .before .before in
     let a = st .args in
-    (lt-of-le-of-lt (and-le-l (a .can) (a .variables .once)) (st .pre .0), st .pre .1)
+    (lt-of-le-of-lt (and-le-l (a .can) _) (st .pre .0), st .pre .1)
 
 returns-3 : tie.Need-returns-3
 returns-3 c =
