@@ -1,0 +1,61 @@
+-- `fills::any_joins` meets its contract: each variable asked is tested, until one passes. Assumes nothing.
+use native.Mathlib.Omega.{arith}
+use mathlib.Core.Path.{_≡_, sym, ap, _∙_}
+use mathlib.Core.Bool.{true, false}
+use Prim.Native.Nat.{ℕ, _^_, _<_}
+use Rattle.numbers.specs.Bits.{bit}
+use Rattle.numbers.proofs.Bits.{bit-zero}
+use Rattle.patterns.specs.Patterns.{mostVariables}
+use Rattle.automaton.proofs.Membership.{clash}
+use Rattle.slots.specs.Slots.{heldIn}
+use Rattle.firing.specs.Firing.{joinsBy}
+use Rattle.reach.proofs.MaskInTurn.{low-bits, rest-less}
+use Rattle.fills.proofs.Counting.{tested-more}
+use borrow.Author.Needs.{needs}
+use Rattle.fills.proofs.any_joins.Statement.{statement}
+use Rattle.fills.proofs.any_joins.Tie as tie
+
+abbrev Inv-loop : tie.InvT-loop
+Inv-loop block plan i asked slot rest₀ rest = (rest < 2 ^ mostVariables) × ((v : ℕ) → bit asked v ≡ true → bit rest v ≡ false → joinsBy plan block i v (heldIn slot .bindings) ≡ false)
+
+abbrev μ-loop : tie.MeasureT-loop
+μ-loop block plan i asked slot rest₀ rest = rest
+
+loop-holds : tie.Need-loop-holds Inv-loop μ-loop
+loop-holds c = (c .before .pre .0, λ v e f. clash e f)
+
+lowest-bit-requires : tie.Need-lowest-bit-requires Inv-loop μ-loop
+lowest-bit-requires c κs = search needs
+
+joins-hold-requires : tie.Need-joins-hold-requires Inv-loop μ-loop
+joins-hold-requires c κs = ?
+
+returns : tie.Need-returns Inv-loop μ-loop
+returns c = ?
+
+without-bit-requires : tie.Need-without-bit-requires Inv-loop μ-loop
+without-bit-requires c κs = ?
+
+loop-less : tie.Need-loop-less Inv-loop μ-loop
+loop-less c = ?
+
+loop-again : tie.Need-loop-again Inv-loop μ-loop
+loop-again c = ?
+
+returns-2 : tie.Need-returns-2 Inv-loop μ-loop
+returns-2 c = ?
+
+pub any-joins-spec : {M : Type 1} → statement M
+any-joins-spec =
+    tie.close
+    (tie.spec
+    Inv-loop
+    μ-loop
+    loop-holds
+    lowest-bit-requires
+    joins-hold-requires
+    returns
+    without-bit-requires
+    loop-less
+    loop-again
+    returns-2)
