@@ -142,6 +142,12 @@ module _ (plan bytes : List ℕ) (s : Start) (slot : List ℕ) (j x : ℕ) where
   asked-read cans settled i l none =
       subst (λ (can : ℕ). NoneJoins plan bytes i (bitAnd can x) slot) (settled .each i l) none
 
+  -- none of fewer variables
+  pub without-fewer :
+      (y from : ℕ) → ((v : ℕ) → bit y v ≡ true → bit x v ≡ true) → Without plan bytes s slot j x from
+      → Without plan bytes s slot j y from
+  without-fewer y from inside w = record { unbound = λ p o q i g l v e. w .unbound p o q i g l v (inside v e) }
+
   -- some of the variables need it, so all of them do
   pub late-wider :
       (y end : ℕ) → ((v : ℕ) → bit y v ≡ true → bit x v ≡ true) → Late plan bytes s slot j y end

@@ -1,72 +1,130 @@
+-- `fills::after` meets its contract. The loop's invariant: no reading has bound all of x but `left` before record i, nor
+-- all of x before an earlier one. Assumes nothing.
+use native.Mathlib.Omega.{arith}
+use mathlib.Core.Path.{_≡_, sym, ap, subst, _∙_}
+use mathlib.Core.Bool.{Bool, false}
+use Prim.Native.Nat.{ℕ, _+_, _-_, _≤_, _<_}
+use Rattle.numbers.specs.Numbers.{oneIf}
+use Rattle.numbers.proofs.Count.{oneIf-bound}
+use Rattle.reach.proofs.Readings.{fit}
+use Rattle.reach.proofs.Masks.{read-bound, allowed-read}
+use Rattle.fills.specs.Filling.{Lacks, Late}
+use Rattle.fills.proofs.Lacking.{lacks-all, lacks-next, late-from, late-next, asked-read}
+use borrow.Author.Needs.{needs}
 use Rattle.fills.proofs.after.Statement.{statement}
 use Rattle.fills.proofs.after.Tie as tie
-use Rattle.fills.proofs.after.Reads as reads
-use Rattle.fills.proofs.after.Lts as lts
-use Rattle.fills.proofs.any_joins.Reads as any-joins-reads
-use Rattle.fills.proofs.size_of.Reads as size-of-reads
-use Rattle.numbers.proofs.one_if.Reads as one-if-reads
 
 abbrev Inv-loop : tie.InvT-loop
-Inv-loop block plan cans s j slot x from left₀ i₀ left i = ?
+Inv-loop block plan cans s j slot x from left₀ i₀ left i = (from ≤ i) × (i ≤ s .until) × Lacks plan block s slot j x i left × Late plan block s slot j x i
 
 abbrev μ-loop : tie.MeasureT-loop
-μ-loop block plan cans s j slot x from left₀ i₀ left i = ?
+μ-loop block plan cans s j slot x from left₀ i₀ left i = s .until - i
 
--- src/lib.rt:56:9
 size-of-requires : tie.Need-size-of-requires Inv-loop μ-loop
-size-of-requires c κs = ?
+size-of-requires c κs = search needs
 
--- src/lib.rt:58:5
 loop-holds : tie.Need-loop-holds Inv-loop μ-loop
-loop-holds c = ?
+loop-holds c =
+    let st = c .before .before .before in
+    let a = st .args in
+    let asks = st .pre in (
+      search needs,
+      asks .inside,
+      subst (Lacks (a .plan .now) (a .block .now) (a .s) (a .slot .now) (a .j) (a .x) (a .from)) (sym (c .size-of .ensures))
+      (lacks-all (a .plan .now) (a .block .now) (a .s) (a .slot .now) (a .j) (a .x) (a .from) (asks .without)),
+      late-from (a .plan .now) (a .block .now) (a .s) (a .slot .now) (a .j) (a .x) (a .from) (asks .some) (asks .variables) (asks .without),
+    )
 
--- src/lib.rt:60:20
 add-result : tie.Need-add-result Inv-loop μ-loop
-add-result c = ?
+add-result c =
+    let ready = c .before .before .before .before .before .before .before .pre .ready in
+    let end = ready .block in
+    let records = ready .usable .records in
+    let h = c .before .before .before .loop .inv in
+    omega arith
 
--- src/lib.rt:60:13
 returns : tie.Need-returns Inv-loop μ-loop
-returns c = ?
+returns c =
+    let a = c .before .before .before .before .before .before .before .args in
+    let h = c .before .before .before .loop in
+    let left : 0 < h .left = omega (arith, c .before .before .loop-test .taken) in
+    record {
+      after = omega (arith, h .inv .0);
+      late = late-next (a .plan .now) (a .block .now) (a .s) (a .slot .now) (a .j) (a .x) (h .i) (h .left) left (h .inv .2) (h .inv .3);
+    }
 
--- src/lib.rt:62:21
 mul-asked : tie.Need-mul-asked Inv-loop μ-loop
-mul-asked c = ?
+mul-asked c =
+    let ready = c .before .before .before .before .before .before .before .pre .ready in
+    let end = ready .block in
+    let records = ready .usable .records in
+    omega (arith, c .if1 .left)
 
--- src/lib.rt:62:21
 element-copy-out-asked : tie.Need-element-copy-out-asked Inv-loop μ-loop
-element-copy-out-asked c = ?
+element-copy-out-asked c =
+    let ready = c .before .before .before .before .before .before .before .pre .ready in
+    let end = ready .block in
+    let records = ready .usable .records in
+    omega (arith, c .if1 .left)
 
--- src/lib.rt:62:21
 cast-asked : tie.Need-cast-asked Inv-loop μ-loop
-cast-asked c = ?
+cast-asked c =
+    let st = c .before .before .before .before .before .before .before .before in
+    let a = st .args in
+    let ready = st .pre .ready in
+    let end = ready .block in
+    let here = c .before .if1 .left in
+    let small = read-bound (a .plan .now) (a .block .now) (a .s .n) (a .s .c) (ready .usable .variables) (a .cans .now) (st .pre .settled) (c .before .before .before .before .loop .i) (omega arith) in
+    omega arith
 
--- src/lib.rt:63:39
 any-joins-requires : tie.Need-any-joins-requires Inv-loop μ-loop
-any-joins-requires c κs = ?
+any-joins-requires c κs =
+    let st = c .before .before .before .before .before .before .before .before in
+    let a = st .args in
+    let ready = st .pre .ready in
+    let h = c .before .before .before .before .loop in
+    let end = ready .block in
+    let here = c .before .if1 .left in
+    let after = st .pre .after in (
+      allowed-read (a .plan .now) (a .block .now) (a .s .n) (a .s .c) (ready .usable .variables) (a .cans .now) (st .pre .settled) (h .i) (omega arith) (a .x),
+      fit (a .plan .now) (a .block .now) (a .s .n) (a .s .c) (a .j) (a .slot .now) (ready .usable) (ready .reads) (h .i) (omega (arith, h .inv .0)) (omega arith),
+    )
 
--- src/lib.rt:63:23
 one-if-requires : tie.Need-one-if-requires Inv-loop μ-loop
-one-if-requires c κs = ?
+one-if-requires c κs = search needs
 
--- src/lib.rt:63:16
 sub-left : tie.Need-sub-left Inv-loop μ-loop
-sub-left c = ?
+sub-left c =
+    let one = oneIf-bound (c .before .any-joins .result) in
+    omega (arith, c .one-if .ensures, c .before .before .before .before .before .loop-test .taken)
 
--- src/lib.rt:64:9
 add-i : tie.Need-add-i Inv-loop μ-loop
-add-i c = ?
+add-i c = omega (arith, c .before .before .before .if1 .left)
 
--- src/lib.rt:58:5
 loop-less : tie.Need-loop-less Inv-loop μ-loop
-loop-less c = ?
+loop-less c = omega (arith, c .before .before .before .if1 .left)
 
--- src/lib.rt:58:5
 loop-again : tie.Need-loop-again Inv-loop μ-loop
-loop-again c = ?
+loop-again c =
+    let st = c .before .before .before .before .before .before .before .before .before .before in
+    let a = st .args in
+    let ready = st .pre .ready in
+    let h = c .before .before .before .before .before .before .loop in
+    let end = ready .block in
+    let here : h .i < a .s .until = omega (arith, c .before .before .before .if1 .left) in
+    let after : a .j ≤ h .i = omega (arith, st .pre .after, h .inv .0) in
+    let left : 0 < h .left = omega (arith, c .before .before .before .before .before .loop-test .taken) in
+    let hit = c .before .any-joins .result in (
+      omega (arith, h .inv .0),
+      omega arith,
+      subst (λ (k : ℕ). Lacks (a .plan .now) (a .block .now) (a .s) (a .slot .now) (a .j) (a .x) (h .i + 1) (h .left - k)) (sym (c .one-if .ensures))
+      (lacks-next (a .plan .now) (a .block .now) (a .s) (a .slot .now) (a .j) (a .x) ready (h .i) (h .left) after here left (h .inv .2) hit
+      (λ e. asked-read (a .plan .now) (a .block .now) (a .s) (a .slot .now) (a .j) (a .x) (a .cans .now) (st .pre .settled) (h .i) (omega arith) (c .before .any-joins .ensures e))),
+      late-next (a .plan .now) (a .block .now) (a .s) (a .slot .now) (a .j) (a .x) (h .i) (h .left) left (h .inv .2) (h .inv .3),
+    )
 
--- src/lib.rt:43:1
 returns-2 : tie.Need-returns-2 Inv-loop μ-loop
-returns-2 c = ?
+returns-2 c = let h = c .before .loop in record { after = h .inv .0; late = h .inv .3 }
 
 pub after-spec : {M : Type 1} → statement M
 after-spec =
