@@ -4,9 +4,10 @@ use mathlib.Core.Path.{_≡_, refl, sym, ap, ap₂, _∙_}
 use mathlib.Core.Bool.{Bool, true, false, not, _&&_, _||_}
 use Prim.Native.Nat.{ℕ, zero, suc, _+_, _-_, _*_, _^_, _≤_, _<_}
 use native.Mathlib.Omega.{arith}
-use native.Mathlib.Nat.{lt-of-le-of-lt}
+use native.Mathlib.Nat.{add-comm, lt-of-le-of-lt}
 use borrow.Author.Tests.{eqb-true, ne-eqb}
 use lib.Bits.{bitAnd, and-le-l}
+use lib.Count.{ones, onesIn, ones-cat}
 use lib.Dec.{eqb}
 use Rattle.numbers.specs.Numbers.{count, oneIf}
 use Rattle.numbers.specs.Bits.{bit, mask}
@@ -30,6 +31,11 @@ count-zero : (n : ℕ) → count (λ v. false) n ≡ 0
 unfolding count
 count-zero zero = refl
 count-zero (suc n) = let e = count-zero n in omega arith
+
+pub count-bound : (f : ℕ → Bool) (n : ℕ) → count f n ≤ n
+unfolding count
+count-bound f zero = omega arith
+count-bound f (suc n) = let e = count-bound f n in let one = oneIf-bound (f n) in omega arith
 
 -- all that pass f pass g
 pub count-all :
@@ -71,6 +77,25 @@ module _ (f g : ℕ → Bool) (w : ℕ) where
       (λ t. ap (λ (s : Bool). f v && (s || g v)) t))
 
 -- ## Masks
+
+ones-if : (t : Bool) → ones (oneIf t) ≡ oneIf t
+unfolding ones onesIn
+ones-if true = refl
+ones-if false = refl
+
+ones-mask : (f : ℕ → Bool) (n : ℕ) → ones (mask f n) ≡ count f n
+unfolding mask count
+ones-mask f zero = ones-if false
+ones-mask f (suc n) =
+    let below = ones-mask f n in
+    let here = ones-if (f n) in
+    let parts : ones (mask f n + oneIf (f n) * 2 ^ n) ≡ ones (oneIf (f n)) + ones (mask f n) =
+    ap ones (add-comm (mask f n) (oneIf (f n) * 2 ^ n)) ∙ ones-cat n (oneIf (f n)) (mask f n) (mask-bound f n) in
+    omega arith
+
+-- the bits of a number, counted
+pub ones-bits : (x n : ℕ) → x < 2 ^ n → ones x ≡ count (bit x) n
+ones-bits x n h = ap ones (sym (mask-of-bits x n h)) ∙ ones-mask (bit x) n
 
 -- a number that is not 0 has a bit
 pub some-bit : (x n : ℕ) → 0 < x → x < 2 ^ n → (v : ℕ) × (bit x v ≡ true)

@@ -10,19 +10,20 @@ ghost use Rattle.fills.specs.Filling.{sizeOf, NoneJoins, Asks, Found};
 
 // How many variables a mask has.
 fn size_of(x: u64) -> usize
+    requires { ⌜ x < 2 ^ mostVariables ⌝ }
     ensures { λ r. ⌜ r ≡ sizeOf x ⌝ }
 {
-    let mut size = 0;
-    let mut v = 0;
-    while v < patterns::MOST_VARIABLES {
-        size += numbers::one_if(numbers::bit_of(x, v));
-        v += 1;
-    }
-    size
+    u64::count_ones(x) as usize
 }
 
 // Whether some variable asked agrees at record i with what the slot's reading binds.
-fn any_joins(block: &[u8], plan: &[u64; firing::PLAN_ROOM], i: usize, asked: u64, slot: &[u8]) -> bool
+fn any_joins(
+    block: &[u8],
+    plan: &[u64; firing::PLAN_ROOM],
+    i: usize,
+    asked: u64,
+    slot: &[u8],
+) -> bool
     requires { ⌜ (asked < 2 ^ mostVariables) × Fit (now plan) (now block) i (now slot) ⌝ }
     ensures { λ r. ⌜ (r ≡ false → NoneJoins (now (plan .entry)) (now (block .entry)) i asked (now (slot .entry))) ⌝ }
 {
@@ -53,14 +54,15 @@ fn after(
     requires { ⌜ Asks (now plan) (now block) (now cans) s (now slot) j x from ⌝ }
     ensures { λ r. ⌜ Found (now (plan .entry)) (now (block .entry)) s (now (slot .entry)) j x from r ⌝ }
 {
-    let mut left = size_of(x);
+    let size = size_of(x);
+    let mut taken = 0;
     let mut i = from;
-    while left != 0 {
+    while taken < size {
         if s.until <= i {
             return i + 1;
         }
         let asked = cans[i] as u64 & x;
-        left = left - numbers::one_if(any_joins(block, plan, i, asked, slot));
+        taken += numbers::one_if(any_joins(block, plan, i, asked, slot));
         i += 1;
     }
     i

@@ -1,5 +1,5 @@
--- `fills::after` meets its contract. The loop's invariant: no reading has bound all of x but `left` before record i, nor
--- all of x before an earlier one. Assumes nothing.
+-- `fills::after` meets its contract. The loop's invariant: no reading has bound more of x than `taken` before record i,
+-- nor all of x before an earlier one. Assumes nothing.
 use native.Mathlib.Omega.{arith}
 use mathlib.Core.Path.{_≡_, sym, ap, subst, _∙_}
 use mathlib.Core.Bool.{Bool, false}
@@ -8,31 +8,34 @@ use Rattle.numbers.specs.Numbers.{oneIf}
 use Rattle.numbers.proofs.Count.{oneIf-bound}
 use Rattle.reach.proofs.Readings.{fit}
 use Rattle.reach.proofs.Masks.{read-bound, allowed-read}
-use Rattle.fills.specs.Filling.{Lacks, Late}
+use Rattle.fills.specs.Filling.{sizeOf, Lacks, Late}
 use Rattle.fills.proofs.Lacking.{lacks-all, lacks-next, late-from, late-next, asked-read}
 use borrow.Author.Needs.{needs}
 use Rattle.fills.proofs.after.Statement.{statement}
 use Rattle.fills.proofs.after.Tie as tie
 
 abbrev Inv-loop : tie.InvT-loop
-Inv-loop block plan cans s j slot x from left₀ i₀ left i = (from ≤ i) × (i ≤ s .until) × Lacks plan block s slot j x i left × Late plan block s slot j x i
+Inv-loop block plan cans s j slot x from size taken₀ i₀ taken i = (from ≤ i) × (i ≤ s .until) × Lacks plan block s slot j x i (size - taken) × Late plan block s slot j x i × (taken ≤ size)
 
 abbrev μ-loop : tie.MeasureT-loop
-μ-loop block plan cans s j slot x from left₀ i₀ left i = s .until - i
+μ-loop block plan cans s j slot x from size taken₀ i₀ taken i = s .until - i
 
 size-of-requires : tie.Need-size-of-requires Inv-loop μ-loop
-size-of-requires c κs = search needs
+size-of-requires c κs = c .before .before .pre .variables
 
 loop-holds : tie.Need-loop-holds Inv-loop μ-loop
 loop-holds c =
     let st = c .before .before .before in
     let a = st .args in
-    let asks = st .pre in (
+    let asks = st .pre in
+    let is = c .size-of .ensures in
+    let whole : sizeOf (a .x) ≡ c .size-of .result - 0 = omega arith in (
       search needs,
       asks .inside,
-      subst (Lacks (a .plan .now) (a .block .now) (a .s) (a .slot .now) (a .j) (a .x) (a .from)) (sym (c .size-of .ensures))
-      (lacks-all (a .plan .now) (a .block .now) (a .s) (a .slot .now) (a .j) (a .x) (a .from) (asks .without)),
+      subst (Lacks (a .plan .now) (a .block .now) (a .s) (a .slot .now) (a .j) (a .x) (a .from)) whole
+          (lacks-all (a .plan .now) (a .block .now) (a .s) (a .slot .now) (a .j) (a .x) (a .from) (asks .without)),
       late-from (a .plan .now) (a .block .now) (a .s) (a .slot .now) (a .j) (a .x) (a .from) (asks .some) (asks .variables) (asks .without),
+      search needs,
     )
 
 add-result : tie.Need-add-result Inv-loop μ-loop
@@ -47,10 +50,11 @@ returns : tie.Need-returns Inv-loop μ-loop
 returns c =
     let a = c .before .before .before .before .before .before .before .args in
     let h = c .before .before .before .loop in
-    let left : 0 < h .left = omega (arith, c .before .before .loop-test .taken) in
+    let size = c .before .before .before .before .size-of .result in
+    let left : 0 < size - h .taken = omega (arith, c .before .before .loop-test .taken) in
     record {
       after = omega (arith, h .inv .0);
-      late = late-next (a .plan .now) (a .block .now) (a .s) (a .slot .now) (a .j) (a .x) (h .i) (h .left) left (h .inv .2) (h .inv .3);
+      late = late-next (a .plan .now) (a .block .now) (a .s) (a .slot .now) (a .j) (a .x) (h .i) (size - h .taken) left (h .inv .2) (h .inv .3);
     }
 
 mul-asked : tie.Need-mul-asked Inv-loop μ-loop
@@ -93,8 +97,8 @@ any-joins-requires c κs =
 one-if-requires : tie.Need-one-if-requires Inv-loop μ-loop
 one-if-requires c κs = search needs
 
-sub-left : tie.Need-sub-left Inv-loop μ-loop
-sub-left c =
+add-taken : tie.Need-add-taken Inv-loop μ-loop
+add-taken c =
     let one = oneIf-bound (c .before .any-joins .result) in
     omega (arith, c .one-if .ensures, c .before .before .before .before .before .loop-test .taken)
 
@@ -113,14 +117,19 @@ loop-again c =
     let end = ready .block in
     let here : h .i < a .s .until = omega (arith, c .before .before .before .if1 .left) in
     let after : a .j ≤ h .i = omega (arith, st .pre .after, h .inv .0) in
-    let left : 0 < h .left = omega (arith, c .before .before .before .before .before .loop-test .taken) in
-    let hit = c .before .any-joins .result in (
+    let size = c .before .before .before .before .before .before .before .size-of .result in
+    let left : 0 < size - h .taken = omega (arith, c .before .before .before .before .before .loop-test .taken) in
+    let one = oneIf-bound (c .before .any-joins .result) in
+    let is = c .one-if .ensures in
+    let hit = c .before .any-joins .result in
+    let less : (size - h .taken) - oneIf hit ≡ size - (h .taken + c .one-if .result) = omega arith in (
       omega (arith, h .inv .0),
       omega arith,
-      subst (λ (k : ℕ). Lacks (a .plan .now) (a .block .now) (a .s) (a .slot .now) (a .j) (a .x) (h .i + 1) (h .left - k)) (sym (c .one-if .ensures))
-      (lacks-next (a .plan .now) (a .block .now) (a .s) (a .slot .now) (a .j) (a .x) ready (h .i) (h .left) after here left (h .inv .2) hit
-      (λ e. asked-read (a .plan .now) (a .block .now) (a .s) (a .slot .now) (a .j) (a .x) (a .cans .now) (st .pre .settled) (h .i) (omega arith) (c .before .any-joins .ensures e))),
-      late-next (a .plan .now) (a .block .now) (a .s) (a .slot .now) (a .j) (a .x) (h .i) (h .left) left (h .inv .2) (h .inv .3),
+      subst (λ (k : ℕ). Lacks (a .plan .now) (a .block .now) (a .s) (a .slot .now) (a .j) (a .x) (h .i + 1) k) less
+          (lacks-next (a .plan .now) (a .block .now) (a .s) (a .slot .now) (a .j) (a .x) ready (h .i) (size - h .taken) after here left (h .inv .2) hit
+          (λ e. asked-read (a .plan .now) (a .block .now) (a .s) (a .slot .now) (a .j) (a .x) (a .cans .now) (st .pre .settled) (h .i) (omega arith) (c .before .any-joins .ensures e))),
+      late-next (a .plan .now) (a .block .now) (a .s) (a .slot .now) (a .j) (a .x) (h .i) (size - h .taken) left (h .inv .2) (h .inv .3),
+      omega (arith, c .before .before .before .before .before .loop-test .taken),
     )
 
 returns-2 : tie.Need-returns-2 Inv-loop μ-loop
@@ -141,7 +150,7 @@ after-spec =
     cast-asked
     any-joins-requires
     one-if-requires
-    sub-left
+    add-taken
     add-i
     loop-less
     loop-again

@@ -34,7 +34,7 @@ loop-holds c =
       search needs,
       ready .within,
       subst (λ (x : ℕ). Within (a .plan .now) (a .block .now) (a .s) (a .slot .now) (a .j) x (a .j)) (sym (c .state-of .ensures))
-      (within-state (a .plan .now) (a .block .now) (a .s) (a .slot .now) (a .j) ready),
+          (within-state (a .plan .now) (a .block .now) (a .s) (a .slot .now) (a .j) ready),
     )
 
 leaving-requires : tie.Need-leaving-requires Inv-loop μ-loop

@@ -81,8 +81,8 @@ loop-again c =
       λ v e. both (bit (h .x - 1) v) (bit (a .set) v) (sym (bit-and (h .x - 1) (a .set) v) ∙ e) .1,
       omega (arith, h .inv .2),
       subst (Late (a .plan .now) (a .block .now) (a .s) (a .slot .now) (a .j) (a .set)) (sym is)
-      (late-both (a .plan .now) (a .block .now) (a .s) (a .slot .now) (a .j) (a .set) (h .most) (found .result) (h .inv .3)
-      (late-wider (a .plan .now) (a .block .now) (a .s) (a .slot .now) (a .j) (a .set) (h .x) (found .result) (h .inv .1) (found .ensures .late))),
+          (late-both (a .plan .now) (a .block .now) (a .s) (a .slot .now) (a .j) (a .set) (h .most) (found .result) (h .inv .3)
+          (late-wider (a .plan .now) (a .block .now) (a .s) (a .slot .now) (a .j) (a .set) (h .x) (found .result) (h .inv .1) (found .ensures .late))),
     )
 
 returns-2 : tie.Need-returns-2 Inv-loop μ-loop
