@@ -118,11 +118,13 @@ pub fn can_fill(
     ensures { λ r. ⌜ (r ≡ false → NeverFull (now (plan .entry)) (now (block .entry)) s (now (slot .entry)) j) ⌝ }
 {
     let n = s.n;
+    // bound already, or of a set looked at; nothing else can be bound before record `from`
     let mut reached = slots::state_of(slot);
     let mut from = j;
     let mut sets = 0;
     while sets < n {
         let leave = reach::leaving(plan, n, reached);
+        // the unbound variables of the next set
         let set = leave - (leave & reached);
         if set == 0 {
             return true;
