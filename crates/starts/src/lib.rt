@@ -162,7 +162,7 @@ fn may_report(
     if counts.steps < PATIENCE {
         return true;
     }
-    can_fill(block, plan, cans, s, j, slot)
+    fills::can_fill(block, plan, cans, s, j, slot)
 }
 
 // The smaller of two.
@@ -192,13 +192,13 @@ fn may_exceed(
     if end <= s.floor {
         return false;
     }
-    if !has_room(s, j, slot, end) {
+    if !exceeds::has_room(s, j, slot, end) {
         return false;
     }
     if counts.steps < PATIENCE {
         return true;
     }
-    can_exceed(block, plan, cans, s, j, slot, end)
+    exceeds::can_exceed(block, plan, cans, s, j, slot, end)
 }
 
 // Whether nothing that the reading, held before record j, can still come to changes the answer.
@@ -238,43 +238,6 @@ fn stepped(counts: Counts, limit: usize) -> Counts
     } else {
         counts
     }
-}
-
-fn can_fill(
-    block: &[u8],
-    plan: &[u64; firing::PLAN_ROOM],
-    cans: &[u16; records::MOST_RECORDS],
-    s: reach::Start,
-    j: usize,
-    slot: &[u8],
-) -> bool
-    requires { ⌜ (Ready (now plan) (now block) s (now slot) j) × Cans (now plan) (now block) (s .n) (s .c) (now cans) ⌝ }
-    ensures { λ r. ⌜ (r ≡ false → NeverFull (now (plan .entry)) (now (block .entry)) s (now (slot .entry)) j) ⌝ }
-{
-    true
-}
-
-fn has_room(s: reach::Start, j: usize, slot: &[u8], end: usize) -> bool
-    requires { ⌜ Reads (s .n) j (now slot) ⌝ }
-    ensures { λ r. ⌜ (r ≡ false → (plan bytes : List ℕ) → NoneOver plan bytes s (now (slot .entry)) j end) ⌝ }
-{
-    true
-}
-
-fn can_exceed(
-    block: &[u8],
-    plan: &[u64; firing::PLAN_ROOM],
-    cans: &[u16; records::MOST_RECORDS],
-    s: reach::Start,
-    j: usize,
-    slot: &[u8],
-    end: usize,
-) -> bool
-    requires { ⌜ (Ready (now plan) (now block) s (now slot) j)
-        × (Cans (now plan) (now block) (s .n) (s .c) (now cans)) × (end ≤ s .until) ⌝ }
-    ensures { λ r. ⌜ (r ≡ false → NoneOver (now (plan .entry)) (now (block .entry)) s (now (slot .entry)) j end) ⌝ }
-{
-    true
 }
 
 // ## Skip and branch

@@ -6,8 +6,8 @@ use Rattle.starts.proofs.may_exceed.Statement.{statement}
 use Rattle.starts.proofs.may_exceed.Tie as tie
 use Rattle.starts.proofs.may_exceed.Reads as reads
 use Rattle.starts.proofs.may_exceed.Lts as lts
-use Rattle.starts.proofs.can_exceed.Reads as can-exceed-reads
-use Rattle.starts.proofs.has_room.Reads as has-room-reads
+use Rattle.exceeds.proofs.can_exceed.Reads as can-exceed-reads
+use Rattle.exceeds.proofs.has_room.Reads as has-room-reads
 use Rattle.starts.proofs.smaller.Reads as smaller-reads
 
 smaller-requires : tie.Need-smaller-requires

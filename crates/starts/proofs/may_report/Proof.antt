@@ -6,7 +6,7 @@ use Rattle.starts.proofs.may_report.Statement.{statement}
 use Rattle.starts.proofs.may_report.Tie as tie
 use Rattle.starts.proofs.may_report.Reads as reads
 use Rattle.starts.proofs.may_report.Lts as lts
-use Rattle.starts.proofs.can_fill.Reads as can-fill-reads
+use Rattle.fills.proofs.can_fill.Reads as can-fill-reads
 use Rattle.starts.proofs.is_told.Reads as is-told-reads
 
 returns : tie.Need-returns

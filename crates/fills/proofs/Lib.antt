@@ -1,0 +1,3 @@
+pub mod Counting
+pub mod Lacking
+pub mod Sets
