@@ -40,12 +40,13 @@ static void give_up(const char *what) {
   exit(3);
 }
 
-/* Has this process killed after MOST_SECONDS of the processor. */
+/* Has this process killed after MOST_SECONDS of the processor. The timer is that of its one thread: while a timer of
+   the whole process runs, Linux moves the clock that seconds() reads only at each tick. */
 static void limit_seconds(void) {
   struct sigevent kill_it = {.sigev_notify = SIGEV_SIGNAL, .sigev_signo = SIGKILL};
   struct itimerspec once = {.it_value = {.tv_sec = MOST_SECONDS}};
   timer_t timer;
-  if (timer_create(CLOCK_PROCESS_CPUTIME_ID, &kill_it, &timer) != 0 || timer_settime(timer, 0, &once, NULL) != 0)
+  if (timer_create(CLOCK_THREAD_CPUTIME_ID, &kill_it, &timer) != 0 || timer_settime(timer, 0, &once, NULL) != 0)
     give_up("timer");
 }
 
