@@ -10,9 +10,9 @@
 #include <stdlib.h>
 #include <string.h>
 #include <sys/mman.h>
-#include <time.h>
 #include <ucontext.h>
 
+#include "seconds.h"
 #include "spaldep.h"
 #include "workloads.h"
 #include "yardstick.h"
@@ -57,13 +57,6 @@ static uint64_t library_check_block(const struct workload *w, uint8_t *result) {
 }
 
 /* ---- times ---- */
-
-/* Of the processor, so that other work on the machine counts little. */
-static double seconds(void) {
-  struct timespec t;
-  clock_gettime(CLOCK_PROCESS_CPUTIME_ID, &t);
-  return (double)t.tv_sec + 1e-9 * (double)t.tv_nsec;
-}
 
 /* Seconds a call, over `calls` calls. */
 static double round_of(pass run, const struct workload *w, unsigned calls) {

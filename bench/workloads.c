@@ -4,16 +4,17 @@
 #include <string.h>
 
 enum { RECORDS = SPALDEP_BLOCK_RECORDS };
-enum { CORE = 0, TYPE = 1, CLASS = 2, SLOT = 3, AMOUNT = 4, EQUAL = 0, AT_MOST = 2, ABOVE = 3 };
 enum { BOUND_ON_SLOT = 90, NO_CORE_OR_TYPE = 200, NO_CLASS = 1000 };
 
-static const uint8_t class_types[6] = {3, 17, 33, 65, 97, 129};
+const uint8_t class_types[CLASSES] = {3, 17, 33, 65, 97, 129};
 
 static enum asked way;
 
 static uint32_t chance_state;
 
-static uint32_t chance(uint32_t below) {
+void seed_chance(uint32_t seed) { chance_state = seed; }
+
+uint32_t chance(uint32_t below) {
   chance_state ^= chance_state << 13;
   chance_state ^= chance_state >> 17;
   chance_state ^= chance_state << 5;
@@ -22,7 +23,7 @@ static uint32_t chance(uint32_t below) {
 
 /* ---- patterns ---- */
 
-static void begin_pattern(struct workload *w, unsigned n, const char *variables, uint64_t duration) {
+void begin_pattern(struct workload *w, unsigned n, const char *variables, uint64_t duration) {
   memset(w->pattern, 0, sizeof w->pattern);
   w->pattern[0] = (uint8_t)(0x10 | n);
   for (unsigned i = 0; i < 5; i++) w->pattern[3 + i] = (uint8_t)(duration >> (32 - 8 * i));
@@ -39,13 +40,12 @@ static uint8_t *next_condition(struct workload *w, unsigned variable, unsigned a
   return at;
 }
 
-static void with_constant(struct workload *w, unsigned variable, unsigned attribute, unsigned operator,
-                          uint8_t constant) {
+void with_constant(struct workload *w, unsigned variable, unsigned attribute, unsigned operator, uint8_t constant) {
   next_condition(w, variable, attribute, operator)[7] = constant;
 }
 
-static void with_variable(struct workload *w, unsigned variable, unsigned attribute, unsigned operator, unsigned second,
-                          unsigned second_attribute) {
+void with_variable(struct workload *w, unsigned variable, unsigned attribute, unsigned operator, unsigned second,
+                   unsigned second_attribute) {
   uint8_t *at = next_condition(w, variable, attribute, operator);
   at[1] = (uint8_t)(at[1] | 0x20u | second << 1 | second_attribute >> 2);
   at[2] = (uint8_t)((second_attribute & 3) << 6);
@@ -69,7 +69,28 @@ static void bench_pattern(struct workload *w, uint64_t duration) {
   with_variable(w, 0, CORE, EQUAL, 2, CORE);
 }
 
-/* ---- blocks: a record every 10 cycles ---- */
+/* ---- blocks ---- */
+
+void put_event(struct workload *w, size_t record, unsigned core, unsigned type, uint32_t slot, uint32_t amount) {
+  uint8_t *at = w->block + 16 * record;
+  uint64_t time = CYCLES_A_RECORD * (1 + (uint64_t)record);
+  memset(at, 0, 16);
+  at[0] = (uint8_t)core;
+  at[1] = (uint8_t)type;
+  for (unsigned i = 0; i < 5; i++) at[2 + i] = (uint8_t)(time >> (32 - 8 * i));
+  for (unsigned i = 0; i < 4; i++) {
+    at[7 + i] = (uint8_t)(slot >> (24 - 8 * i));
+    at[11 + i] = (uint8_t)(amount >> (24 - 8 * i));
+  }
+}
+
+void put_gap(struct workload *w, size_t record) {
+  uint8_t *at = w->block + 16 * record;
+  at[0] = 0x40;
+  at[1] = 0;
+  memset(at + 7, 0, 8);
+  at[10] = 1;
+}
 
 /* An event's slot and amount, by which BY_AMOUNT and BY_ITSELF know its class: of class 0 the slot is the core, of
    class 1 the type, of class 2 the amount is the class. */
@@ -82,25 +103,8 @@ static void tell_class(unsigned core, unsigned class, uint32_t *slot, uint32_t *
 
 static void put_record(struct workload *w, size_t record, unsigned core, unsigned class, uint32_t slot,
                        uint32_t amount) {
-  uint8_t *at = w->block + 16 * record;
-  uint64_t time = 10 + 10 * (uint64_t)record;
   tell_class(core, class, &slot, &amount);
-  memset(at, 0, 16);
-  at[0] = (uint8_t)core;
-  at[1] = class_types[class];
-  for (unsigned i = 0; i < 5; i++) at[2 + i] = (uint8_t)(time >> (32 - 8 * i));
-  for (unsigned i = 0; i < 4; i++) {
-    at[7 + i] = (uint8_t)(slot >> (24 - 8 * i));
-    at[11 + i] = (uint8_t)(amount >> (24 - 8 * i));
-  }
-}
-
-static void put_gap(struct workload *w, size_t record) {
-  uint8_t *at = w->block + 16 * record;
-  at[0] = 0x40;
-  at[1] = 0;
-  memset(at + 7, 0, 8);
-  at[10] = 1;
+  put_event(w, record, core, class_types[class], slot, amount);
 }
 
 /* ---- the workloads ---- */
@@ -171,7 +175,7 @@ void make_workload(unsigned number, enum asked asked, struct workload *out) {
   static void (*const make[])(struct workload *) = {bench_workload, sparse_workload, branching_workload,
                                                     joins_workload, idle_workload,   deep_workload};
   way = asked;
-  chance_state = 2463534242u;
+  seed_chance(2463534242u);
   out->block_len = sizeof out->block;
   make[number](out);
 }

@@ -1,4 +1,4 @@
-/* The bench's workloads: a pattern and a block each, the same on every machine. */
+/* The bench's workloads: a pattern and a block each, the same on every machine; and what packs them. */
 #ifndef WORKLOADS_H
 #define WORKLOADS_H
 
@@ -25,5 +25,30 @@ enum { WORKLOADS = 5, JOINS_WORKLOAD = 3 };
 enum asked { BY_CLASS, BY_TYPE, BY_AMOUNT, BY_TYPE_AND_SLOT, BY_ITSELF, WAYS_TO_ASK };
 
 void make_workload(unsigned number, enum asked asked, struct workload *out);
+
+/* ---- packing ---- */
+
+/* Attributes and operators of conditions. */
+enum { CORE = 0, TYPE = 1, CLASS = 2, SLOT = 3, AMOUNT = 4, EQUAL = 0, AT_MOST = 2, ABOVE = 3 };
+
+/* A pattern without conditions, from one byte a variable as patterns have it; then condition after condition, with a
+   constant or with the attribute of a second variable. */
+void begin_pattern(struct workload *w, unsigned n, const char *variables, uint64_t duration);
+void with_constant(struct workload *w, unsigned variable, unsigned attribute, unsigned operator, uint8_t constant);
+void with_variable(struct workload *w, unsigned variable, unsigned attribute, unsigned operator, unsigned second,
+                   unsigned second_attribute);
+
+/* The first type that is used of each class; the two types after it are of the class too. */
+enum { CLASSES = 6 };
+extern const uint8_t class_types[CLASSES];
+
+/* Records of a block, CYCLES_A_RECORD cycles from one to the next; put_gap makes a gap of an event. */
+enum { CYCLES_A_RECORD = 10 };
+void put_event(struct workload *w, size_t record, unsigned core, unsigned type, uint32_t slot, uint32_t amount);
+void put_gap(struct workload *w, size_t record);
+
+/* 0 to below - 1 by chance, the same numbers after the same seed. A seed is not 0. */
+void seed_chance(uint32_t seed);
+uint32_t chance(uint32_t below);
 
 #endif
