@@ -57,24 +57,28 @@ unsigned leaves(struct view *w, unsigned state) {
   return w->leaving[state] = all;
 }
 
-unsigned firing(struct view *w, const struct group *g, size_t event) {
-  unsigned fire = leaves(w, g->state) & w->able[event];
-  for (size_t i = 0; i < w->joins && fire != 0; i++) {
+unsigned agreeing(const struct view *w, const struct group *g, unsigned variables, size_t event) {
+  unsigned agree = variables & w->able[event];
+  for (size_t i = 0; i < w->joins && agree != 0; i++) {
     const struct join *j = &w->join[i];
     const struct condition *k = j->condition;
     unsigned first = 1u << k->variable, second = 1u << k->second_variable;
-    if ((fire & first) != 0 && (g->state & second) != 0) {
+    if ((agree & first) != 0 && (g->state & second) != 0) {
       int64_t new = value(&w->b->record[event], k->attribute);
       if (!compares(new, k->operator, g->least[j->second]) || !compares(new, k->operator, g->greatest[j->second]))
-        fire &= ~first;
+        agree &= ~first;
     }
-    if ((fire & second) != 0 && (g->state & first) != 0) {
+    if ((agree & second) != 0 && (g->state & first) != 0) {
       int64_t new = value(&w->b->record[event], k->second_attribute);
       if (!compares(g->least[j->first], k->operator, new) || !compares(g->greatest[j->first], k->operator, new))
-        fire &= ~second;
+        agree &= ~second;
     }
   }
-  return fire;
+  return agree;
+}
+
+unsigned firing(struct view *w, const struct group *g, size_t event) {
+  return agreeing(w, g, leaves(w, g->state), event);
 }
 
 /* The values of a side once v is bound to a value. */
@@ -91,10 +95,11 @@ static void forget(struct group *g, size_t side, bool least_asked, bool greatest
   if (!least_asked && greatest_asked) g->least[side] = g->greatest[side];
 }
 
+unsigned still_to_come(struct view *w, unsigned state) { return (((1u << w->p->n) - 1) & ~state) | leaves(w, state); }
+
 void bind_group(struct view *w, const struct group *from, unsigned v, size_t event, struct group *to) {
   to->state = from->state | 1u << v;
-  /* A variable can still be bound if it is not yet, or if it loops; what does not loop here never does again. */
-  unsigned to_come = (((1u << w->p->n) - 1) & ~to->state) | leaves(w, to->state);
+  unsigned to_come = still_to_come(w, to->state);
   for (size_t i = 0; i < w->sides; i++) {
     const struct side *s = &w->side[i];
     to->least[i] = from->least[i];

@@ -44,6 +44,14 @@ void view_of(struct view *w, const struct pattern *p, const struct block *b);
 /* The variables that leave a state, a bit for each. */
 unsigned leaves(struct view *w, unsigned state);
 
+/* The variables that can be bound now or later: those that are not yet, and those that loop. What is bound and does not
+   loop never does again. */
+unsigned still_to_come(struct view *w, unsigned state);
+
+/* Of some variables that are still to come, those whose own conditions an event meets, and whose joins with all that
+   is bound. */
+unsigned agreeing(const struct view *w, const struct group *g, unsigned variables, size_t event);
+
 /* The variables whose steps fire at an event. The order mark asks nothing more: times go up from record to record, and
    an event comes behind all that is bound. */
 unsigned firing(struct view *w, const struct group *g, size_t event);

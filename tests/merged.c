@@ -94,8 +94,9 @@ static void take_step(struct walk *w, size_t from, unsigned v, size_t at) {
   target->counts |= (source->counts & ~LAST_COUNT) << 1;
 }
 
-/* Takes the live readings past a record; false where one of them has a 33rd binding there. */
-static bool pass_record(struct walk *w, size_t at) {
+/* Takes the live readings past a record; false where one of them has a 33rd binding there, and then only if the walk is
+   to go past it. */
+static bool pass_record(struct walk *w, size_t at, bool past) {
   static size_t going[MOST_NODES];
   size_t stay = 0, go = 0;
   bool too_long = false;
@@ -110,6 +111,7 @@ static bool pass_record(struct walk *w, size_t at) {
     too_long = too_long || (n->fire != 0 && (n->counts & LAST_COUNT) != 0);
   }
   if (go == 0) return true;
+  if (too_long && !past) return false;
   w->live_count = stay;
   for (size_t i = 0; i < CHAINS; i++) w->chain[i] = NONE;
   for (size_t i = 0; i < stay; i++) chain_in(w, w->live[i]);
@@ -135,7 +137,7 @@ static size_t walk_start(struct walk *w, size_t first, size_t end, bool past) {
   w->live[0] = 0;
   w->node[0] = (struct node){.readings = 1, .counts = 1, .in = NONE, .out = NONE};
   for (size_t at = first; at < end && !w->spent && some_step_leaves(w); at++) {
-    bool in_order = pass_record(w, at);
+    bool in_order = pass_record(w, at, past);
     w->spent = w->spent || w->tests > MOST_TESTS;
     if (!in_order && too_long_at == end) too_long_at = at;
     if (!in_order && !past) break;

@@ -40,10 +40,10 @@ void merge_readings(const uint8_t *pattern, size_t pattern_len, const uint8_t *b
 uint64_t merged_start_by_start(const struct merged *m, uint8_t *result, size_t result_len);
 
 /*
- * Whether the start-by-start pass can be expected to end soon on a wide case, so that a case is not used on which it
- * need not. A pass that stops where nothing it could find changes its answer is tried, with tests no sharper than any
- * such pass has: by the events that some variable could take by its own conditions, and by the records that are left.
- * Where there are no joins, whether a 33rd binding comes is taken to be known.
+ * Whether the start-by-start pass can be expected to end soon on a wide case. Without joins it can: what a reading can
+ * still come to is then known from its state and the records ahead. With joins nobody promises that, so a pass is tried
+ * that goes on from a reading only where a report or an earlier 33rd binding may come of it, by the events ahead that
+ * agree with what is bound; a case on which this trial has no end is not used.
  */
 bool wide_trial_ends(const uint8_t *pattern, size_t pattern_len, const uint8_t *block, size_t block_len,
                      const struct merged *m);

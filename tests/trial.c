@@ -7,29 +7,37 @@ enum { MOST_TRIED = 200000 };
 
 static struct trial {
   struct view view;
-  bool joins;
-  size_t until; /* where the readings of the start close */
-  size_t
-      last[VARIABLES]; /* one behind the last record of the window that a variable could take by its own conditions */
-  size_t least;        /* the least record of a 33rd binding met, or the count of records */
+  size_t until;            /* where the readings of the start close */
+  size_t least;            /* the least record of a 33rd binding met, or the count of records */
   uint64_t numbers, tried; /* numbers of the report so far, and events tried */
 } trial;
 
-/* Whether a reading that is to take its next binding at `at` can still be reported, and the report still be given. */
-static bool can_report(const struct trial *t, const struct group *g, size_t at) {
-  size_t missing = 0;
-  if (t->least < t->view.b->count || t->numbers > RESULT_BYTES / 2) return false;
-  for (unsigned v = 0; v < t->view.p->n; v++) {
-    if (g->state >> v & 1) continue;
-    missing++;
-    if (t->last[v] <= at) return false;
+/* Whether an event from `at` on agrees with what is bound, so that v could be bound to it. */
+static bool has_event(struct trial *t, const struct group *g, unsigned v, size_t at) {
+  for (; at < t->until; at++) {
+    t->tried++;
+    if (agreeing(&t->view, g, 1u << v, at) != 0) return true;
   }
-  return missing <= t->until - at;
+  return false;
 }
 
-/* Whether its 33rd binding can come before the least one known. */
-static bool can_be_too_long(const struct trial *t, size_t bindings, size_t at) {
-  return t->joins && at + BINDINGS - bindings < (t->least < t->until ? t->least : t->until);
+/* Whether a reading that is to take its next binding at `at` can still be reported, and the report still be given. */
+static bool can_report(struct trial *t, const struct group *g, size_t at) {
+  if (t->least < t->view.b->count || t->numbers > RESULT_BYTES / 2) return false;
+  for (unsigned v = 0; v < t->view.p->n; v++)
+    if ((g->state >> v & 1) == 0 && !has_event(t, g, v, at)) return false;
+  return true;
+}
+
+/* Whether a 33rd binding can come before the least one known: by the events that agree with what is bound. */
+static bool can_be_too_long(struct trial *t, const struct group *g, size_t bindings, size_t at) {
+  size_t end = t->least < t->until ? t->least : t->until, events = 0;
+  if (at + BINDINGS - bindings >= end) return false;
+  for (; at < end && bindings + events <= BINDINGS; at++) {
+    t->tried++;
+    if (agreeing(&t->view, g, still_to_come(&t->view, g->state), at) != 0) events++;
+  }
+  return bindings + events > BINDINGS;
 }
 
 static void go_on(struct trial *t, const struct group *g, size_t bindings, size_t at) {
@@ -45,7 +53,7 @@ static void go_on(struct trial *t, const struct group *g, size_t bindings, size_
     if (at < t->least) t->least = at;
     return;
   }
-  if (!can_report(t, g, at) && !can_be_too_long(t, bindings, at)) return;
+  if (!can_report(t, g, at) && !can_be_too_long(t, g, bindings, at)) return;
   for (unsigned v = 0; v < t->view.p->n && t->tried < MOST_TRIED; v++) {
     struct group longer;
     if ((fire >> v & 1) == 0) continue;
@@ -58,10 +66,6 @@ static void go_on_from(struct trial *t, size_t first) {
   static const struct group none;
   unsigned mark;
   t->until = closes_at(&t->view, first, &mark);
-  for (unsigned v = 0; v < t->view.p->n; v++) {
-    t->last[v] = t->until;
-    while (t->last[v] > first && (t->view.able[t->last[v] - 1] >> v & 1) == 0) t->last[v]--;
-  }
   t->tried++;
   if (firing(&t->view, &none, first) != 0) go_on(t, &none, 0, first);
 }
@@ -71,9 +75,8 @@ bool wide_trial_ends(const uint8_t *pattern, size_t pattern_len, const uint8_t *
   static struct pattern p;
   static struct block b;
   if (read_all(pattern, pattern_len, block, block_len, &p, &b) != 0) return true;
-  if (m->too_long && !m->joins) return true;
+  if (!m->joins) return true;
   view_of(&trial.view, &p, &b);
-  trial.joins = m->joins;
   trial.least = b.count;
   trial.numbers = trial.tried = 0;
   for (size_t first = 0; first < b.count && trial.tried < MOST_TRIED; first++)

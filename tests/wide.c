@@ -18,20 +18,60 @@ static const unsigned class_type[6] = {0, 16, 32, 64, 96, 128};
 
 static bool joined(enum family f) { return f >= SAME_CORE; }
 
-static unsigned any_records(struct random *r, enum family f) {
-  if (joined(f)) return chance(r, 30) ? between(r, 10, 14) : chance(r, 80) ? between(r, 15, 40) : between(r, 41, 80);
-  if (chance(r, 4)) return between(r, 121, 600);
-  return chance(r, 20) ? between(r, 61, 120) : chance(r, 15) ? between(r, 10, 19) : between(r, 20, 60);
+struct sizes {
+  unsigned records, gap; /* the record that is a gap, or past them all */
+};
+
+static void any_sizes(struct random *r, enum family f, struct sizes *size) {
+  if (joined(f))
+    size->records = chance(r, 30) ? between(r, 10, 14) : chance(r, 80) ? between(r, 15, 40) : between(r, 41, 80);
+  else if (chance(r, 4))
+    size->records = between(r, 121, 600);
+  else
+    size->records = chance(r, 30) ? between(r, 61, 120) : chance(r, 10) ? between(r, 10, 19) : between(r, 20, 60);
+  size->gap = chance(r, 80) ? size->records : below(r, size->records);
 }
 
-static void wide_knobs(struct random *r, enum family f, struct knobs *k) {
-  *k = (struct knobs){.shape = "wide", .cores = 2};
-  k->variables = PICK(r, 1, 2, 2, 2, 3, 3, 3, 4, 4, 5, 6, 8, 10, 12);
+static void any_wide(struct random *r, enum family f, struct knobs *k, struct sizes *size) {
+  any_sizes(r, f, size);
+  k->variables = PICK(r, 1, 2, 2, 3, 3, 3, 3, 4, 4, 5, 6, 8, 12);
   k->sets = between(r, k->variables > 6 ? 2 : 1, k->variables < 3 ? k->variables : 3);
   k->group_percent = PICK(r, 0, 50, 80, 100, 100, 100);
-  k->records = any_records(r, f);
   k->time_step = PICK(r, 1, 1, 10);
-  k->window = PICK(r, 5, 10, 16, 20, 25, 29, 31, 31, 32, 33, 34, 40, k->records, k->records, k->records, k->records);
+  k->window = PICK(r, 5, 16, 20, 25, 28, 30, 31, 31, 32, 33, 40, size->records, size->records, size->records);
+}
+
+/* Many readings before a gap, where there are too few records for a 33rd binding, and one behind it. */
+static void parted_wide(struct random *r, struct knobs *k, struct sizes *size) {
+  size->gap = between(r, 22, 32);
+  size->records = size->gap + between(r, 30, 45);
+  k->variables = between(r, 3, 6);
+  k->sets = between(r, 1, 2);
+  k->group_percent = PICK(r, 80, 100);
+  k->time_step = 1;
+  k->window = size->records;
+}
+
+/* Variables that take one event each: full readings with the rest of a long block behind them. */
+static void plain_wide(struct random *r, struct knobs *k, struct sizes *size) {
+  size->records = size->gap = between(r, 121, 400);
+  k->variables = between(r, 1, 4);
+  k->sets = between(r, 1, k->variables < 3 ? k->variables : 3);
+  k->group_percent = PICK(r, 0, 0, 20);
+  k->time_step = 1;
+  k->window = size->records;
+}
+
+static void wide_knobs(struct random *r, enum family f, struct knobs *k, struct sizes *size) {
+  unsigned n = below(r, 100);
+  *k = (struct knobs){.shape = "wide", .cores = 2};
+  if (n < 15 && !joined(f))
+    parted_wide(r, k, size);
+  else if (n < 25 && !joined(f))
+    plain_wide(r, k, size);
+  else
+    any_wide(r, f, k, size);
+  k->records = size->records;
 }
 
 static unsigned wide_conditions(enum family f, const struct knobs *k, const uint8_t *variables, uint8_t *at) {
@@ -46,11 +86,10 @@ static unsigned wide_conditions(enum family f, const struct knobs *k, const uint
   return c;
 }
 
-/* Records with a gap or none among them; `late` is the record of the seldom event, or past them all. */
-static void wide_block(struct random *r, enum family f, const struct knobs *k, struct test_case *out) {
+/* `late` is the record of the seldom event, or past them all. */
+static void wide_block(struct random *r, enum family f, const struct knobs *k, unsigned gap, struct test_case *out) {
   unsigned run = PICK(r, 1, 8, 30), cores_turn = below(r, 2), slots = PICK(r, 1, 2, 4, 1000);
   unsigned late = chance(r, 50) ? k->records : between(r, k->records / 2, k->records - 1);
-  unsigned gap = chance(r, 75) ? k->records : chance(r, 50) ? between(r, 14, 32) : below(r, k->records);
   uint64_t time = below(r, 100);
   out->block_len = 16 * (size_t)k->records;
   memset(out->block, 0, out->block_len + 16);
@@ -74,8 +113,9 @@ void make_wide(struct random *r, struct test_case *out) {
   enum family f = (enum family)PICK(r, NO_CONDITIONS, NO_CONDITIONS, CLASS_OF_SET, CLASS_OF_SET, LAST_SELDOM,
                                     LAST_SELDOM, SAME_CORE, SLOT_AT_MOST, LAST_FAILS);
   struct knobs k;
-  wide_knobs(r, f, &k);
-  wide_block(r, f, &k, out);
+  struct sizes size;
+  wide_knobs(r, f, &k, &size);
+  wide_block(r, f, &k, size.gap, out);
   memset(out->pattern, 0, PATTERN_ROOM);
   put_variables(r, &k, out->pattern + 8);
   unsigned c = wide_conditions(f, &k, out->pattern + 8, out->pattern + 8 + k.variables);
