@@ -8,10 +8,11 @@ enum family {
   NO_CONDITIONS,
   CLASS_OF_SET, /* the classes of the events alternate, or come in runs */
   LAST_SELDOM,  /* the last variable's class comes once, late, or never */
+  OUT_OF_ORDER, /* and the class of the variable before it comes behind that, and once or never in front */
+  ONE_FOR_TWO,  /* the last two ask for one class, which comes once, late, or never */
   SAME_CORE,    /* of two cores, each variable that of variable 0 */
   SLOT_AT_MOST, /* each variable's slot is at most that of the next one */
-  LAST_FAILS,   /* the last variable's slot is above that of variable 0, which it never is, or once, late */
-  FAMILIES
+  LAST_FAILS    /* the last variable's slot is above that of variable 0, which it never is, or once, late */
 };
 
 static const unsigned class_type[6] = {0, 16, 32, 64, 96, 128};
@@ -79,6 +80,8 @@ static unsigned wide_conditions(enum family f, const struct knobs *k, const uint
   for (unsigned v = 0; v <= last; v++) {
     if (f == CLASS_OF_SET) put_condition(at + 8 * c++, v, 2, 0, 0, 0, 0, (variables[v] >> 4) - 1u);
     if (f == LAST_SELDOM) put_condition(at + 8 * c++, v, 2, 0, 0, 0, 0, v == last);
+    if (f == OUT_OF_ORDER && v > 0 && v + 1 >= last) put_condition(at + 8 * c++, v, 2, 0, 0, 0, 0, v == last ? 2 : 1);
+    if (f == ONE_FOR_TWO && v > 0 && v + 1 >= last) put_condition(at + 8 * c++, v, 2, 0, 0, 0, 0, 1);
     if (f == SAME_CORE && v > 0) put_condition(at + 8 * c++, v, 0, 0, 1, 0, 0, 0);
     if (f == SLOT_AT_MOST && v > 0) put_condition(at + 8 * c++, v - 1, 3, 2, 1, v, 3, 0);
   }
@@ -86,10 +89,30 @@ static unsigned wide_conditions(enum family f, const struct knobs *k, const uint
   return c;
 }
 
-/* `late` is the record of the seldom event, or past them all. */
+static void last_in_own_set(unsigned count, uint8_t *variables) {
+  if (count > 1 && variables[count - 1] >> 4 == variables[count - 2] >> 4)
+    variables[count - 1] = (uint8_t)(variables[count - 1] + 0x10);
+}
+
+/* The records of the seldom events, or past them all, and how many of one class follow each other. */
+struct turns {
+  unsigned early, late, run;
+};
+
+static unsigned class_at(enum family f, const struct knobs *k, const struct turns *t, unsigned record) {
+  switch (f) {
+    case CLASS_OF_SET: return record / t->run % k->sets;
+    case LAST_SELDOM:
+    case ONE_FOR_TWO: return record == t->late;
+    case OUT_OF_ORDER: return record == t->late ? 2 : record == t->early || record > t->late;
+    default: return 0;
+  }
+}
+
 static void wide_block(struct random *r, enum family f, const struct knobs *k, unsigned gap, struct test_case *out) {
-  unsigned run = PICK(r, 1, 8, 30), cores_turn = below(r, 2), slots = PICK(r, 1, 2, 4, 1000);
-  unsigned late = chance(r, 50) ? k->records : between(r, k->records / 2, k->records - 1);
+  unsigned cores_turn = below(r, 2), slots = PICK(r, 1, 2, 4, 1000);
+  struct turns turns = {.early = PICK(r, 1, 2, 3, k->records, k->records, k->records), .run = PICK(r, 1, 8, 30)};
+  turns.late = chance(r, 40) ? k->records : between(r, k->records / 2, k->records - 1);
   uint64_t time = below(r, 100);
   out->block_len = 16 * (size_t)k->records;
   memset(out->block, 0, out->block_len + 16);
@@ -101,23 +124,23 @@ static void wide_block(struct random *r, enum family f, const struct knobs *k, u
       set_field(at, 56, 32, 1);
       continue;
     }
-    if (f == CLASS_OF_SET) set_field(at, 8, 8, class_type[i / run % k->sets]);
-    if (f == LAST_SELDOM) set_field(at, 8, 8, class_type[i == late]);
+    set_field(at, 8, 8, class_type[class_at(f, k, &turns, i)]);
     if (f == SAME_CORE) set_field(at, 2, 6, cores_turn == 1 ? i % k->cores : below(r, k->cores));
     if (f == SLOT_AT_MOST) set_field(at, 56, 32, below(r, slots));
-    if (f == LAST_FAILS) set_field(at, 56, 32, i == late);
+    if (f == LAST_FAILS) set_field(at, 56, 32, i == turns.late);
   }
 }
 
 void make_wide(struct random *r, struct test_case *out) {
   enum family f = (enum family)PICK(r, NO_CONDITIONS, NO_CONDITIONS, CLASS_OF_SET, CLASS_OF_SET, LAST_SELDOM,
-                                    LAST_SELDOM, SAME_CORE, SLOT_AT_MOST, LAST_FAILS);
+                                    LAST_SELDOM, OUT_OF_ORDER, ONE_FOR_TWO, SAME_CORE, SLOT_AT_MOST, LAST_FAILS);
   struct knobs k;
   struct sizes size;
   wide_knobs(r, f, &k, &size);
   wide_block(r, f, &k, size.gap, out);
   memset(out->pattern, 0, PATTERN_ROOM);
   put_variables(r, &k, out->pattern + 8);
+  if (f == OUT_OF_ORDER) last_in_own_set(k.variables, out->pattern + 8);
   unsigned c = wide_conditions(f, &k, out->pattern + 8, out->pattern + 8 + k.variables);
   put_header(r, &k, c, out);
 }
