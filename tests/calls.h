@@ -28,7 +28,7 @@ void begin_case(uint64_t seed);
 void end_case(void); /* counts the case */
 void fail(const char *what);
 
-/* Each gives the reference's answer. */
+/* Each gives the reference's answer. Of a wide case measure is not compared: it has every reading to count. */
 uint64_t compare_check_pattern(void);
 uint64_t compare_check_block(void);
 uint64_t compare_listing(size_t listing_len);

@@ -12,6 +12,8 @@ enum {
   CHAINS = 512
 };
 
+_Static_assert(MERGED_REPORT_BYTES == RESULT_BYTES, "the longest result slice");
+
 #define LAST_COUNT ((uint64_t)1 << BINDINGS)
 
 /* A group from the event at which its first reading came to it, up to the event that fires one of its steps: this

@@ -14,7 +14,7 @@
 /* Where counts of readings, bindings and branches stop. */
 #define MERGED_MOST ((uint64_t)1000000000000000000)
 
-enum { MERGED_REPORT_BYTES = 65536 };
+enum { MERGED_REPORT_BYTES = 65536 }; /* of the longest report that a call can give */
 
 struct merged {
   bool answered;    /* false: more groups than the walk has room for, or more steps than it may take */

@@ -35,7 +35,7 @@ static void any_sizes(struct random *r, enum family f, struct sizes *size) {
 
 static void any_wide(struct random *r, enum family f, struct knobs *k, struct sizes *size) {
   any_sizes(r, f, size);
-  k->variables = PICK(r, 1, 2, 2, 3, 3, 3, 3, 4, 4, 5, 6, 8, 12);
+  k->variables = chance(r, 15) ? between(r, 7, 12) : PICK(r, 1, 2, 2, 3, 3, 3, 3, 4, 4, 5, 6);
   k->sets = between(r, k->variables > 6 ? 2 : 1, k->variables < 3 ? k->variables : 3);
   k->group_percent = PICK(r, 0, 50, 80, 100, 100, 100);
   k->time_step = PICK(r, 1, 1, 10);
@@ -132,8 +132,9 @@ static void wide_block(struct random *r, enum family f, const struct knobs *k, u
 }
 
 void make_wide(struct random *r, struct test_case *out) {
-  enum family f = (enum family)PICK(r, NO_CONDITIONS, NO_CONDITIONS, CLASS_OF_SET, CLASS_OF_SET, LAST_SELDOM,
-                                    LAST_SELDOM, OUT_OF_ORDER, ONE_FOR_TWO, SAME_CORE, SLOT_AT_MOST, LAST_FAILS);
+  enum family f =
+      (enum family)PICK(r, NO_CONDITIONS, NO_CONDITIONS, CLASS_OF_SET, CLASS_OF_SET, LAST_SELDOM, LAST_SELDOM,
+                        OUT_OF_ORDER, ONE_FOR_TWO, SAME_CORE, SAME_CORE, SLOT_AT_MOST, LAST_FAILS);
   struct knobs k;
   struct sizes size;
   wide_knobs(r, f, &k, &size);
