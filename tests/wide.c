@@ -63,13 +63,26 @@ static void plain_wide(struct random *r, struct knobs *k, struct sizes *size) {
   k->window = size->records;
 }
 
+/* The readings of each start bind the events of its core: the 33rd binding met first need not have the least record. */
+static void rates_wide(struct random *r, struct knobs *k, struct sizes *size) {
+  size->records = size->gap = between(r, 66, 80);
+  k->variables = between(r, 3, 5);
+  k->sets = 2;
+  k->group_percent = 100;
+  k->first_single = true;
+  k->time_step = 1;
+  k->window = size->records;
+}
+
 static void wide_knobs(struct random *r, enum family f, struct knobs *k, struct sizes *size) {
   unsigned n = below(r, 100);
   *k = (struct knobs){.shape = "wide", .cores = 2};
   if (n < 15 && !joined(f))
     parted_wide(r, k, size);
-  else if (n < 25 && !joined(f))
+  else if (n < 28 && !joined(f))
     plain_wide(r, k, size);
+  else if (n < 35 && f == SAME_CORE)
+    rates_wide(r, k, size);
   else
     any_wide(r, f, k, size);
   k->records = size->records;
@@ -87,6 +100,10 @@ static unsigned wide_conditions(enum family f, const struct knobs *k, const uint
   }
   if (f == LAST_FAILS && last > 0) put_condition(at + 8 * c++, last, 3, 3, 1, 0, 3, 0);
   return c;
+}
+
+static void first_in_own_set(unsigned count, uint8_t *variables) {
+  for (unsigned v = 1; v < count; v++) variables[v] = (uint8_t)(0x20 | (variables[v] & 8));
 }
 
 static void last_in_own_set(unsigned count, uint8_t *variables) {
@@ -141,6 +158,7 @@ void make_wide(struct random *r, struct test_case *out) {
   wide_block(r, f, &k, size.gap, out);
   memset(out->pattern, 0, PATTERN_ROOM);
   put_variables(r, &k, out->pattern + 8);
+  if (k.first_single) first_in_own_set(k.variables, out->pattern + 8);
   if (f == OUT_OF_ORDER) last_in_own_set(k.variables, out->pattern + 8);
   unsigned c = wide_conditions(f, &k, out->pattern + 8, out->pattern + 8 + k.variables);
   put_header(r, &k, c, out);
