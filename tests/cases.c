@@ -274,9 +274,10 @@ static void make_doubling(struct random *r, struct test_case *out) {
 
 /* ---- cases ---- */
 
+/* Cases made to be wide. About half as many more become so by chance, and not all of these do. */
 enum { WIDE_PERCENT = 7 };
 
-/* Whether a case on which not every reading can be tried is one for the merged readings. */
+/* Whether a case of too many readings to try them all is a wide one, which can be answered by merged readings. */
 static bool is_wide(struct test_case *c) {
   merge_readings(c->pattern, c->pattern_len, c->block, c->block_len, &c->merged);
   c->too_many_groups = c->too_many_groups || !c->merged.answered;
@@ -308,7 +309,8 @@ void make_case(uint64_t seed, bool wide, struct test_case *out) {
   struct knobs k;
   choose_knobs(&r, &k);
   out->shape = k.shape;
-  if (chance(&r, WIDE_PERCENT)) {
+  bool to_be_wide = chance(&r, WIDE_PERCENT);
+  if (to_be_wide) {
     out->shape = "wide";
     k.effort = 6000;
     make_wide(&r, out);
@@ -319,9 +321,8 @@ void make_case(uint64_t seed, bool wide, struct test_case *out) {
   } else {
     make_by_knobs(&r, &k, out);
   }
-  bool damaged = strcmp(out->shape, "wide") != 0;
-  if (damaged && chance(&r, 12)) damage_pattern(&r, out);
-  if (damaged && chance(&r, 8)) damage_block(&r, out);
+  if (!to_be_wide && chance(&r, 12)) damage_pattern(&r, out);
+  if (!to_be_wide && chance(&r, 8)) damage_block(&r, out);
   cut_to_effort(out, k.effort, wide);
   out->large = out->block_len > 16 * 120;
 }

@@ -12,7 +12,7 @@ enum {
   CHAINS = 512
 };
 
-_Static_assert(MERGED_REPORT_BYTES == RESULT_BYTES, "the longest result slice");
+_Static_assert((int)MERGED_REPORT_BYTES == (int)RESULT_BYTES, "the longest result slice");
 
 #define LAST_COUNT ((uint64_t)1 << BINDINGS)
 
