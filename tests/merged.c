@@ -227,8 +227,9 @@ static uint64_t branches_before(struct walk *w) {
 
 /* ---- all starts ---- */
 
-/* Whether what begins at `first` can still change an answer: with a 33rd binding known, the 33rd of a reading is 32
-   records behind its start or later; and with more numbers than the longest slice holds, only a 33rd counts. */
+/* Whether what begins at `first` can still change an answer. With a 33rd binding known, or more numbers than the
+   longest slice holds, only a 33rd binding does: it comes 32 records behind its start or later, and where every
+   variable takes one event, it does not. */
 static bool counts_still(const struct walk *w, const struct merged *m, size_t first, size_t end) {
   bool group = false;
   for (unsigned v = 0; v < w->view.p->n; v++) group = group || w->view.p->group[v];
@@ -242,8 +243,8 @@ static uint64_t branches_of(const struct walk *w) {
   return branches;
 }
 
-/* A start with a 33rd binding at a record below all that were known. Joins can make the bindings of a reading few where
-   its events are many, so that only without them is it looked at what comes before the first 33rd one. */
+/* A start with a 33rd binding at a record below all that were known. What comes before the first one is counted only
+   without joins, where it can be known from the records alone that one comes. */
 static void found_too_long(struct walk *w, size_t first, size_t closes, size_t at, struct merged *m) {
   uint64_t earlier = m->branches;
   bool first_found = !m->too_long;

@@ -25,9 +25,9 @@ struct merged {
   uint64_t readings, numbers; /* where none is too long; more than the longest slice holds are not all counted */
 
   /* Branches are the bindings that trying every reading makes. */
-  uint64_t branches;   /* at least so many; all of them where none is too long and the report fits */
-  uint64_t before;     /* of those, at least so many before the first 33rd binding, starts in their order */
-  uint64_t never_full; /* of those, at least so many that lead to no report */
+  uint64_t branches; /* at least so many; all of them where none is too long and the report fits */
+  uint64_t before;   /* at least so many before the first 33rd binding, starts and variables in their order; no joins */
+  uint64_t never_full; /* at least so many that lead to no line of the report */
 
   size_t behind;                       /* the most records behind a full reading that no step can leave */
   uint8_t report[MERGED_REPORT_BYTES]; /* packed, where it fits */
