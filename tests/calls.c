@@ -17,12 +17,13 @@ enum {
   RESULT_ROOM = SPALDEP_RESULT_BYTES_MAX + 64,
   WORK_ROOM = SPALDEP_WORK_BYTES(SPALDEP_LIMIT_MAX) + 4096,
   LISTING_ROOM = 8 * 900,
-  CALL_SECONDS = 120
+  CALL_SECONDS = 60
 };
 
 /* ---- failures ---- */
 
 struct test_case now;
+const char *case_command = "compare case";
 static uint64_t now_seed;
 static const char *now_call = "none";
 static bool now_failed;
@@ -30,7 +31,7 @@ static bool now_failed;
 void fail(const char *what) {
   now_failed = true;
   if (tally.failed < 10)
-    printf("FAILED: %s %s; compare case 0x%016" PRIx64 " (%s)\n", now_call, what, now_seed, now.shape);
+    printf("FAILED: %s %s; %s 0x%016" PRIx64 " (%s)\n", now_call, what, case_command, now_seed, now.shape);
 }
 
 static void fail_answers(uint64_t library, uint64_t reference) {
@@ -41,7 +42,11 @@ static void fail_answers(uint64_t library, uint64_t reference) {
 
 /* A crash or a call that does not end: say where, and end. */
 static void stopped(int sig) {
-  printf("FAILED: %s ended by signal %d; compare case 0x%016" PRIx64 "\n", now_call, sig, now_seed);
+  if (sig == SIGALRM)
+    printf("FAILED: %s did not end in %d seconds; %s 0x%016" PRIx64 "\n", now_call, CALL_SECONDS, case_command,
+           now_seed);
+  else
+    printf("FAILED: %s ended by signal %d; %s 0x%016" PRIx64 "\n", now_call, sig, case_command, now_seed);
   printf("%" PRIu64 " passed, %" PRIu64 " failed\n", tally.passed, tally.failed + 1);
   fflush(stdout);
   _exit(1);
@@ -50,6 +55,9 @@ static void stopped(int sig) {
 void begin_case(uint64_t seed) {
   now_seed = seed;
   now_failed = false;
+  now_call = "making the case";
+  now.wide = false;
+  alarm(CALL_SECONDS);
 }
 
 void end_case(void) {
@@ -153,8 +161,9 @@ static uint64_t compare_starts(size_t result_len) {
   lend_input(CALL_STARTS);
   lent_out(&lent_result, NULL, filled(), result_len);
   memset(reference_result, 0x5a, result_len);
-  uint64_t reference =
-      reference_start_by_start(now.pattern, now.pattern_len, now.block, now.block_len, reference_result, result_len);
+  uint64_t reference = now.wide ? merged_start_by_start(&now.merged, reference_result, result_len)
+                                : reference_start_by_start(now.pattern, now.pattern_len, now.block, now.block_len,
+                                                           reference_result, result_len);
   uint64_t library = spaldep_start_by_start(lent_pattern.bytes, now.pattern_len, lent_block.bytes, now.block_len,
                                             lent_result.bytes, result_len);
   same_answer(CALL_STARTS, library, reference);
@@ -163,7 +172,7 @@ static uint64_t compare_starts(size_t result_len) {
 }
 
 uint64_t compare_measure(void) {
-  if (spaldep_measure == NULL) return 0;
+  if (spaldep_measure == NULL || now.wide) return 0;
   lend_input(CALL_MEASURE);
   uint64_t reference = reference_measure(now.pattern, now.pattern_len, now.block, now.block_len);
   same_answer(CALL_MEASURE, spaldep_measure(lent_pattern.bytes, now.pattern_len, lent_block.bytes, now.block_len),
@@ -183,6 +192,20 @@ void compare_by_rule(uint32_t limit, size_t work_len, size_t result_len) {
   if (pass != rule) fail_answers(pass, rule);
   if (memcmp(result, reference_result, result_len) != 0) fail("reports what the rule does not");
   tally.met[MET_BY_RULE]++;
+}
+
+void compare_merged(size_t result_len) {
+  static uint8_t result[RESULT_ROOM];
+  merge_readings(now.pattern, now.pattern_len, now.block, now.block_len, &now.merged);
+  if (!now.merged.answered) return;
+  now_call = "the reference's start_by_start";
+  memset(result, 0x5a, result_len);
+  uint64_t pass =
+      reference_start_by_start(now.pattern, now.pattern_len, now.block, now.block_len, reference_result, result_len);
+  uint64_t merged = merged_start_by_start(&now.merged, result, result_len);
+  if (pass != merged) fail_answers(pass, merged);
+  if (memcmp(result, reference_result, result_len) != 0) fail("reports what the merged readings do not");
+  tally.met[MET_MERGED]++;
 }
 
 /* Demand 3: what one pass's acceptance says of the other. */

@@ -18,6 +18,9 @@ extern uint64_t spaldep_measure(const uint8_t *pattern, size_t pattern_len, cons
 /* The case at hand: the caller fills it in between begin_case and the first call. */
 extern struct test_case now;
 
+/* What runs a case again, before its seed. */
+extern const char *case_command;
+
 /* Once, before all else: makes the memory that is lent, and has a crash or a call that does not end reported. */
 void calls_ready(void);
 
@@ -25,16 +28,19 @@ void begin_case(uint64_t seed);
 void end_case(void); /* counts the case */
 void fail(const char *what);
 
-/* Each gives the reference's answer. */
+/* Each gives the reference's answer. Of a wide case measure is not compared: it has every reading to count. */
 uint64_t compare_check_pattern(void);
 uint64_t compare_check_block(void);
 uint64_t compare_listing(size_t listing_len);
 uint64_t compare_measure(void);
 
-/* Both passes, and demand 3 between them. */
+/* Both passes, and demand 3 between them. The reference's start-by-start pass of a wide case is the merged one. */
 void compare_passes(uint32_t limit, size_t work_len, size_t result_len);
 
 /* The reference's forward pass against every list of bindings, where there are few enough. */
 void compare_by_rule(uint32_t limit, size_t work_len, size_t result_len);
+
+/* The reference's start-by-start pass against its merged readings. Not for wide cases. */
+void compare_merged(size_t result_len);
 
 #endif

@@ -200,8 +200,7 @@ static void put_any_condition(struct random *r, const struct knobs *k, uint8_t *
   put_condition(at, variable, attribute, operator, 1, second, second_attribute, 0);
 }
 
-/* Sets of at most 6 variables, as many as asked for where they fit. */
-static void put_variables(struct random *r, const struct knobs *k, uint8_t *bytes) {
+void put_variables(struct random *r, const struct knobs *k, uint8_t *bytes) {
   unsigned set = 1, members = 0;
   for (unsigned v = 0; v < k->variables; v++) {
     unsigned after = k->variables - v, sets_after = k->sets - set;
@@ -236,16 +235,19 @@ static unsigned put_conditions(struct random *r, const struct knobs *k, const un
   return c;
 }
 
+void put_header(struct random *r, const struct knobs *k, unsigned conditions, struct test_case *out) {
+  set_field(out->pattern, 0, 4, 1);
+  set_field(out->pattern, 4, 4, k->variables);
+  set_field(out->pattern, 8, 8, conditions);
+  set_field(out->pattern, 24, 40, duration(r, k, out));
+  out->pattern_len = 8 + k->variables + 8 * (size_t)conditions;
+}
+
 static void make_pattern(struct random *r, const struct knobs *k, const unsigned *classes, struct test_case *out) {
   uint8_t *bytes = out->pattern;
   memset(bytes, 0, PATTERN_ROOM);
   put_variables(r, k, bytes + 8);
-  unsigned c = put_conditions(r, k, classes, out, bytes + 8 + k->variables);
-  set_field(bytes, 0, 4, 1);
-  set_field(bytes, 4, 4, k->variables);
-  set_field(bytes, 8, 8, c);
-  set_field(bytes, 24, 40, duration(r, k, out));
-  out->pattern_len = 8 + k->variables + 8 * (size_t)c;
+  put_header(r, k, put_conditions(r, k, classes, out, bytes + 8 + k->variables), out);
 }
 
 /* ---- doubling ---- */
@@ -272,9 +274,26 @@ static void make_doubling(struct random *r, struct test_case *out) {
 
 /* ---- cases ---- */
 
-static void cut_to_effort(struct test_case *c, uint64_t effort) {
-  while (reference_effort(c->pattern, c->pattern_len, c->block, c->block_len, effort) >= effort)
+/* Cases made to be wide. About half as many more become so by chance, and not all of these do. */
+enum { WIDE_PERCENT = 7 };
+
+/* Whether a case of too many readings to try them all is a wide one, which can be answered by merged readings. */
+static bool is_wide(struct test_case *c) {
+  merge_readings(c->pattern, c->pattern_len, c->block, c->block_len, &c->merged);
+  c->too_many_groups = c->too_many_groups || !c->merged.answered;
+  if (!c->merged.answered) return false;
+  bool ends = wide_trial_ends(c->pattern, c->pattern_len, c->block, c->block_len, &c->merged);
+  c->trial_too_long = c->trial_too_long || !ends;
+  return ends;
+}
+
+static void cut_to_effort(struct test_case *c, uint64_t effort, bool wide) {
+  c->wide = c->too_many_groups = c->trial_too_long = false;
+  while (reference_effort(c->pattern, c->pattern_len, c->block, c->block_len, effort) >= effort) {
+    c->wide = wide && is_wide(c);
+    if (c->wide) return;
     c->block_len = c->block_len / 16 * 3 / 4 * 16;
+  }
 }
 
 static void make_by_knobs(struct random *r, const struct knobs *k, struct test_case *out) {
@@ -285,20 +304,25 @@ static void make_by_knobs(struct random *r, const struct knobs *k, struct test_c
   make_pattern(r, k, classes, out);
 }
 
-void make_case(uint64_t seed, struct test_case *out) {
+void make_case(uint64_t seed, bool wide, struct test_case *out) {
   struct random r = {seed};
   struct knobs k;
   choose_knobs(&r, &k);
   out->shape = k.shape;
-  if (chance(&r, 2)) {
+  bool to_be_wide = chance(&r, WIDE_PERCENT);
+  if (to_be_wide) {
+    out->shape = "wide";
+    k.effort = 6000;
+    make_wide(&r, out);
+  } else if (chance(&r, 2)) {
     out->shape = "doubling";
     k.effort = 20000;
     make_doubling(&r, out);
   } else {
     make_by_knobs(&r, &k, out);
   }
-  if (chance(&r, 12)) damage_pattern(&r, out);
-  if (chance(&r, 8)) damage_block(&r, out);
-  cut_to_effort(out, k.effort);
+  if (!to_be_wide && chance(&r, 12)) damage_pattern(&r, out);
+  if (!to_be_wide && chance(&r, 8)) damage_block(&r, out);
+  cut_to_effort(out, k.effort, wide);
   out->large = out->block_len > 16 * 120;
 }

@@ -1,7 +1,9 @@
 /*
  * Random cases: a pattern and a block that go together, as their bytes, some of them damaged. A case is fixed by its
- * seed. Its block is cut until the start-by-start pass has a bounded number of tests to make, so that every call ends
- * soon; the answers are those of the bytes as they then stand.
+ * seed. Most have few readings: a pass that tries them all has a bounded number of tests to make. The others are wide:
+ * their readings can be too many for that by any measure, the reference answers by merged readings (merged.h), and the
+ * pass ends only because it stops where nothing that it could find changes its answer. The block of a case that is
+ * neither is cut until it is one of both; the answers are those of the bytes as they then stand.
  */
 #ifndef CASES_H
 #define CASES_H
@@ -9,6 +11,8 @@
 #include <stdbool.h>
 #include <stddef.h>
 #include <stdint.h>
+
+#include "merged.h"
 
 struct random {
   uint64_t state;
@@ -27,6 +31,10 @@ enum { PATTERN_ROOM = 1024, BLOCK_ROOM = 4098 * 16 };
 struct test_case {
   const char *shape;
   bool large;
+  bool wide;            /* merged then has the readings */
+  bool too_many_groups; /* cut, because its merged readings are in too many groups */
+  bool trial_too_long;  /* cut, because of wide_trial_ends */
+  struct merged merged;
   size_t pattern_len, block_len;
   uint8_t pattern[PATTERN_ROOM];
   uint8_t block[BLOCK_ROOM];
@@ -43,6 +51,7 @@ uint64_t time_of(const struct test_case *c, size_t record);
 void damage_pattern(struct random *r, struct test_case *c);
 void damage_block(struct random *r, struct test_case *c);
 
-void make_case(uint64_t seed, struct test_case *out);
+/* Where no wide cases are asked for, a case that would be one is cut. */
+void make_case(uint64_t seed, bool wide, struct test_case *out);
 
 #endif

@@ -1,11 +1,12 @@
 /*
- * compare SEED COUNT      holds the library against the reference on COUNT random cases, after the rows of Rule 10.2
- *                         and the bytes of Rule 10.1, the bench, with every bit and every length changed
- * compare case SEED       the one case with that seed, with its bytes
+ * compare [narrow] SEED COUNT   holds the library against the reference on COUNT random cases, after the rows of Rule
+ *                               10.2 and the bytes of Rule 10.1, the bench, with every bit and every length changed
+ * compare [narrow] case SEED    the one case with that seed, with its bytes
  *
  * Of each call: the answer, and every byte of the slices that it was lent. Of each case: both passes against each
  * other. It prints how often each call gave each refusal, and its last line is 'N passed, M failed'. A refusal that a
- * call has and that no case met is a failure, and so is each further thing that it counts.
+ * call has and that no case met is a failure, so is each further thing that it counts, and so is a call that does not
+ * end within its time. `narrow` has no wide cases (cases.h), for a start-by-start pass that tries every reading.
  */
 #define _DEFAULT_SOURCE
 #include <inttypes.h>
@@ -92,6 +93,8 @@ static size_t any_work_len(struct random *r, uint32_t limit) {
 
 /* ---- one case ---- */
 
+static bool with_wide = true;
+
 static void count_input(uint64_t pattern_answer, uint64_t block_answer) {
   if (spaldep_code(pattern_answer) == 0) {
     tally.met[MET_MOST_VARIABLES] += (now.pattern[0] & 15) == 12;
@@ -103,20 +106,42 @@ static void count_input(uint64_t pattern_answer, uint64_t block_answer) {
   }
 }
 
+/* See tally.h. */
+static void count_wide(void) {
+  const struct merged *m = &now.merged;
+  tally.too_many_groups += now.too_many_groups;
+  tally.trial_too_long += now.trial_too_long;
+  if (!now.wide) return;
+  bool report = !m->too_long && m->numbers <= SPALDEP_RESULT_BYTES_MAX / 2;
+  tally.wide++;
+  tally.met[MET_WIDE_BEHIND] += report && m->behind >= WIDE_BEHIND;
+  if (m->branches <= WIDE_BRANCHES) return;
+  tally.met[MET_WIDE_TOO_LONG] += m->too_long;
+  tally.met[MET_WIDE_BEFORE] += m->too_long && m->before > WIDE_BRANCHES;
+  tally.met[MET_WIDE_ROOM] += !m->too_long && !report;
+  tally.met[MET_WIDE_NEVER_FULL] += report && m->never_full > WIDE_BRANCHES;
+  tally.met[MET_WIDE_JOINS] += m->joins;
+}
+
 /* The numbers that a pass would write and the most readings live, found with every slice as long as it may be: the
    edges of the lent memory are chosen around them. Where the forward pass refuses at a record, the records before it
-   count, so that a limit of just the peak meets that record. */
-static void find_edges(size_t *used, uint32_t *peak) {
+   count, so that a limit of just the peak meets that record. Where a wide case has no report that fits, the numbers are
+   any. */
+static void find_edges(struct random *r, size_t *used, uint32_t *peak) {
   static uint8_t work[MOST_WORK], result[SPALDEP_RESULT_BYTES_MAX];
   uint64_t forward = reference_forward(now.pattern, now.pattern_len, now.block, now.block_len, SPALDEP_LIMIT_MAX, work,
                                        MOST_WORK, result, sizeof result);
   if (spaldep_code(forward) == SPALDEP_REFUSED_BINDINGS || spaldep_code(forward) == SPALDEP_REFUSED_LIVE)
     forward = reference_forward(now.pattern, now.pattern_len, now.block, 16 * (size_t)spaldep_place(forward),
                                 SPALDEP_LIMIT_MAX, work, MOST_WORK, result, sizeof result);
-  uint64_t starts =
-      reference_start_by_start(now.pattern, now.pattern_len, now.block, now.block_len, result, sizeof result);
-  *used = spaldep_code(starts) == 0 ? spaldep_used(starts) : spaldep_used(forward);
   *peak = spaldep_peak(forward);
+  uint64_t starts = now.wide ? merged_start_by_start(&now.merged, result, sizeof result)
+                             : reference_start_by_start(now.pattern, now.pattern_len, now.block, now.block_len, result,
+                                                        sizeof result);
+  if (now.wide && spaldep_code(starts) != 0)
+    *used = below(r, SPALDEP_RESULT_BYTES_MAX / 2 + 1);
+  else
+    *used = spaldep_code(starts) == 0 ? spaldep_used(starts) : spaldep_used(forward);
 }
 
 static void run_case(uint64_t seed) {
@@ -124,13 +149,14 @@ static void run_case(uint64_t seed) {
   size_t used;
   uint32_t peak;
   begin_case(seed);
-  make_case(seed, &now);
+  make_case(seed, with_wide, &now);
+  count_wide();
   uint64_t pattern = compare_check_pattern(), block = compare_check_block();
   count_input(pattern, block);
   uint64_t listing = compare_listing(8 * SPALDEP_STEPS_MAX);
   compare_listing(any_listing_len(&r, spaldep_used(listing)));
   compare_measure();
-  find_edges(&used, &peak);
+  find_edges(&r, &used, &peak);
   compare_passes(SPALDEP_LIMIT_MAX, MOST_WORK, SPALDEP_RESULT_BYTES_MAX);
   compare_by_rule(SPALDEP_LIMIT_MAX, MOST_WORK, SPALDEP_RESULT_BYTES_MAX);
   for (unsigned i = 0; i < (now.large ? 1 : 3); i++) {
@@ -138,6 +164,7 @@ static void run_case(uint64_t seed) {
     size_t work_len = any_work_len(&r, limit), result_len = any_result_len(&r, used);
     compare_passes(limit, work_len, result_len);
     if (i == 0) compare_by_rule(limit, work_len, result_len);
+    if (i == 0 && !now.wide && seed % 4 == 0) compare_merged(result_len);
   }
   end_case();
 }
@@ -231,15 +258,21 @@ static int run_all(uint64_t seed, uint64_t count) {
   for (int call = 0; call < CALLS; call++) calls += tally.calls[call];
   printf("%" PRIu64 " calls compared\n", calls);
   print_answers(spaldep_measure != NULL);
-  demand_all_met(spaldep_measure != NULL);
+  demand_all_met(spaldep_measure != NULL, with_wide);
   printf("%" PRIu64 " passed, %" PRIu64 " failed\n", tally.passed, tally.failed);
   return tally.failed == 0 ? 0 : 1;
 }
 
 int main(int argc, char **argv) {
   calls_ready();
+  if (argc == 4 && strcmp(argv[1], "narrow") == 0) {
+    with_wide = false;
+    case_command = "compare narrow case";
+    argc--;
+    argv++;
+  }
   if (argc != 3) {
-    fprintf(stderr, "usage: compare SEED COUNT | compare case SEED\n");
+    fprintf(stderr, "usage: compare [narrow] SEED COUNT | compare [narrow] case SEED\n");
     return 2;
   }
   if (strcmp(argv[1], "case") == 0) return run_one(number(argv[2]));

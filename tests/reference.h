@@ -18,6 +18,7 @@ uint64_t reference_check_block(const uint8_t *block, size_t block_len);
 uint64_t reference_list_automaton(const uint8_t *pattern, size_t pattern_len, uint8_t *listing, size_t listing_len);
 uint64_t reference_forward(const uint8_t *pattern, size_t pattern_len, const uint8_t *block, size_t block_len,
                            uint32_t limit, uint8_t *work, size_t work_len, uint8_t *result, size_t result_len);
+/* This one tries every reading, and so does measure: only for cases that have few. merged.h has the others. */
 uint64_t reference_start_by_start(const uint8_t *pattern, size_t pattern_len, const uint8_t *block, size_t block_len,
                                   uint8_t *result, size_t result_len);
 uint64_t reference_measure(const uint8_t *pattern, size_t pattern_len, const uint8_t *block, size_t block_len);
@@ -34,8 +35,8 @@ uint64_t reference_by_rule(const uint8_t *pattern, size_t pattern_len, const uin
    pattern or block is refused. */
 uint64_t reference_by_rule_lists(const uint8_t *pattern, size_t pattern_len, const uint8_t *block, size_t block_len);
 
-/* How many tests of a record against a reading the start-by-start pass makes, or `most` where it is that many or
-   more; 0 where pattern or block is refused. It says which cases are too large to run. */
+/* How many tests of a record against a reading the start-by-start pass above makes, or `most` where it is that many or
+   more; 0 where pattern or block is refused. It says which cases are too large for that. */
 uint64_t reference_effort(const uint8_t *pattern, size_t pattern_len, const uint8_t *block, size_t block_len,
                           uint64_t most);
 

@@ -143,7 +143,7 @@ static unsigned class_of(unsigned type) {
 }
 
 /* Rule 3.1. */
-static int64_t value(const struct record *r, unsigned attribute) {
+int64_t value(const struct record *r, unsigned attribute) {
   switch (attribute) {
     case CORE: return r->core;
     case TYPE: return r->type;
@@ -154,7 +154,7 @@ static int64_t value(const struct record *r, unsigned attribute) {
 }
 
 /* Rule 3.2. */
-static bool compares(int64_t left, unsigned operator, int64_t right) {
+bool compares(int64_t left, unsigned operator, int64_t right) {
   switch (operator) {
     case 0: return left == right;
     case 1: return left < right;
@@ -207,7 +207,7 @@ static unsigned state_after(const struct reading *r, size_t bindings) {
 }
 
 /* Rule 3.3: whether a condition holds with `first` for its variable and `second` for its second variable. */
-static bool holds(const struct block *b, const struct condition *k, size_t first, size_t second) {
+bool holds(const struct block *b, const struct condition *k, size_t first, size_t second) {
   int64_t left = value(&b->record[first], k->attribute);
   int64_t right = k->form == 0 ? k->constant : value(&b->record[second], k->second_attribute);
   return compares(left, k->operator, right);

@@ -86,6 +86,11 @@ uint64_t read_all(const uint8_t *pattern, size_t pattern_len, const uint8_t *blo
 bool result_in_order(size_t result_len);
 bool limit_in_order(uint32_t limit, size_t work_len);
 
+/* Rules 3.1, 3.2 and 3.3. */
+int64_t value(const struct record *r, unsigned attribute);
+bool compares(int64_t left, unsigned operator, int64_t right);
+bool holds(const struct block *b, const struct condition *k, size_t first, size_t second);
+
 /* Of the step on v from a state, whose bit j says that variable j is bound. */
 bool step_leaves(const struct pattern *p, unsigned state, unsigned v);
 bool order_mark(const struct pattern *p, unsigned state, unsigned v);

@@ -27,4 +27,14 @@ struct knobs {
 
 void choose_knobs(struct random *r, struct knobs *k);
 
+/* Sets of at most 6 variables, as many as asked for where they fit. */
+void put_variables(struct random *r, const struct knobs *k, uint8_t *bytes);
+
+/* The header, once all else of the case is there. */
+void put_header(struct random *r, const struct knobs *k, unsigned conditions, struct test_case *out);
+
+/* A case in which events can be bound in many ways: one to twelve variables in up to three sets, without conditions or
+   with such as many events meet. Not all of these cases are wide: the readings of some are few. */
+void make_wide(struct random *r, struct test_case *out);
+
 #endif

@@ -31,7 +31,16 @@ static const char *const met_names[METS] = {
     "accepted patterns of the most conditions",
     "passes where only the forward one refuses, with 10",
     "forward passes held against every list of bindings",
+    "start-by-start passes of the reference held against its merged readings",
+    "wide cases with a 33rd binding",
+    "wide cases, without joins, with a 33rd binding only behind many branches",
+    "wide cases whose report needs more than the longest result slice",
+    "wide cases with a report, and many branches that lead to none",
+    "wide cases with many records behind full readings that nothing can follow",
+    "wide cases with joins",
 };
+
+static bool is_wide(int met) { return met >= MET_WIDE_TOO_LONG && met <= MET_WIDE_JOINS; }
 
 void print_answers(bool with_measure) {
   printf("answers by their code, 0 accepted; a dash where the call has no such refusal\n%-15s", "");
@@ -50,7 +59,7 @@ void print_answers(bool with_measure) {
   printf("refusal 13 has no case: a binding takes a record above all that are bound\n");
 }
 
-void demand_all_met(bool with_measure) {
+void demand_all_met(bool with_measure, bool with_wide) {
   for (int call = 0; call < CALLS; call++)
     for (unsigned code = 0; code < REFUSALS; code++) {
       if (call == CALL_MEASURE && !with_measure) continue;
@@ -59,9 +68,14 @@ void demand_all_met(bool with_measure) {
       tally.failed++;
     }
   for (int met = 0; met < METS; met++) {
+    if (is_wide(met) && !with_wide) continue;
     printf("%9" PRIu64 " %s\n", tally.met[met], met_names[met]);
     if (tally.met[met] > 0) continue;
     printf("FAILED: never met: %s\n", met_names[met]);
     tally.failed++;
   }
+  if (!with_wide) return;
+  printf("%" PRIu64 " wide cases in all; cut as too wide: %" PRIu64 " with too many groups of readings, %" PRIu64
+         " on which a trial did not end\n",
+         tally.wide, tally.too_many_groups, tally.trial_too_long);
 }

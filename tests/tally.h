@@ -24,18 +24,38 @@ enum {
   MET_MOST_CONDITIONS,
   MET_LIVE_ALONE,
   MET_BY_RULE,
+  MET_MERGED,
+  MET_WIDE_TOO_LONG,
+  MET_WIDE_BEFORE,
+  MET_WIDE_ROOM,
+  MET_WIDE_NEVER_FULL,
+  MET_WIDE_BEHIND,
+  MET_WIDE_JOINS,
   METS
 };
+
+/*
+ * What is counted of a wide case shows that the start-by-start pass stops early, and for which reason it could. The
+ * branches of the case, the bindings that trying every reading makes, are more than these, which no call makes within
+ * its time limit; and what the answer is says what there was to find: a 33rd binding, or one only behind that many
+ * branches; more numbers than the longest slice holds; or a report, with that many branches that lead to none. Which of
+ * its tests stopped the pass is not seen from here. Only of the records behind full readings that nothing can follow no
+ * such number is asked: to go through them costs time, and no branches.
+ */
+#define WIDE_BRANCHES ((uint64_t)10000000000)
+enum { WIDE_BEHIND = 100 };
 
 extern struct tally {
   uint64_t calls[CALLS], codes[CALLS][256], met[METS];
   uint64_t passed, failed; /* cases and rows */
+  uint64_t wide;           /* wide cases, and cases cut because they were too wide: */
+  uint64_t too_many_groups, trial_too_long;
 } tally;
 
 /* Prints the answers by call and code. */
 void print_answers(bool with_measure);
 
 /* Prints what else was met, and counts as failed each refusal of a call, and each further thing, that never was. */
-void demand_all_met(bool with_measure);
+void demand_all_met(bool with_measure, bool with_wide);
 
 #endif

@@ -1,0 +1,165 @@
+/* Wide cases: see make_wide in shapes.h. */
+#include <string.h>
+
+#include "shapes.h"
+
+/* What the variables ask for. */
+enum family {
+  NO_CONDITIONS,
+  CLASS_OF_SET, /* the classes of the events alternate, or come in runs */
+  LAST_SELDOM,  /* the last variable's class comes once, late, or never */
+  OUT_OF_ORDER, /* and the class of the variable before it comes behind that, and once or never in front */
+  ONE_FOR_TWO,  /* the last two ask for one class, which comes once, late, or never */
+  SAME_CORE,    /* of two cores, each variable that of variable 0 */
+  SLOT_AT_MOST, /* each variable's slot is at most that of the next one */
+  LAST_FAILS    /* the last variable's slot is above that of variable 0, which it never is, or once, late */
+};
+
+static const unsigned class_type[6] = {0, 16, 32, 64, 96, 128};
+
+static bool joined(enum family f) { return f >= SAME_CORE; }
+
+struct sizes {
+  unsigned records, gap; /* the record that is a gap, or past them all */
+};
+
+static void any_sizes(struct random *r, enum family f, struct sizes *size) {
+  if (joined(f))
+    size->records = chance(r, 30) ? between(r, 10, 14) : chance(r, 80) ? between(r, 15, 40) : between(r, 41, 80);
+  else if (chance(r, 4))
+    size->records = between(r, 121, 600);
+  else
+    size->records = chance(r, 30) ? between(r, 61, 120) : chance(r, 10) ? between(r, 10, 19) : between(r, 20, 60);
+  size->gap = chance(r, 80) ? size->records : below(r, size->records);
+}
+
+static void any_wide(struct random *r, enum family f, struct knobs *k, struct sizes *size) {
+  any_sizes(r, f, size);
+  k->variables = chance(r, 15) ? between(r, 7, 12) : PICK(r, 1, 2, 2, 3, 3, 3, 3, 4, 4, 5, 6);
+  k->sets = between(r, k->variables > 6 ? 2 : 1, k->variables < 3 ? k->variables : 3);
+  k->group_percent = PICK(r, 0, 50, 80, 100, 100, 100);
+  k->time_step = PICK(r, 1, 1, 10);
+  k->window = PICK(r, 5, 16, 20, 25, 28, 30, 31, 31, 32, 33, 40, size->records, size->records, size->records);
+}
+
+/* Many readings before a gap, where there are too few records for a 33rd binding, and one behind it. */
+static void parted_wide(struct random *r, struct knobs *k, struct sizes *size) {
+  size->gap = between(r, 22, 32);
+  size->records = size->gap + between(r, 30, 45);
+  k->variables = between(r, 3, 6);
+  k->sets = between(r, 1, 2);
+  k->group_percent = PICK(r, 80, 100);
+  k->time_step = 1;
+  k->window = size->records;
+}
+
+/* Variables that take one event each: full readings with the rest of a long block behind them. */
+static void plain_wide(struct random *r, struct knobs *k, struct sizes *size) {
+  size->records = size->gap = between(r, 121, 400);
+  k->variables = between(r, 1, 4);
+  k->sets = between(r, 1, k->variables < 3 ? k->variables : 3);
+  k->group_percent = PICK(r, 0, 0, 20);
+  k->time_step = 1;
+  k->window = size->records;
+}
+
+/* The readings of each start bind the events of its core: the 33rd binding met first need not have the least record. */
+static void rates_wide(struct random *r, struct knobs *k, struct sizes *size) {
+  size->records = size->gap = between(r, 66, 80);
+  k->variables = between(r, 3, 5);
+  k->sets = 2;
+  k->group_percent = 100;
+  k->first_single = true;
+  k->time_step = 1;
+  k->window = size->records;
+}
+
+static void wide_knobs(struct random *r, enum family f, struct knobs *k, struct sizes *size) {
+  unsigned n = below(r, 100);
+  *k = (struct knobs){.shape = "wide", .cores = 2};
+  if (n < 15 && !joined(f))
+    parted_wide(r, k, size);
+  else if (n < 28 && !joined(f))
+    plain_wide(r, k, size);
+  else if (n < 35 && f == SAME_CORE)
+    rates_wide(r, k, size);
+  else
+    any_wide(r, f, k, size);
+  k->records = size->records;
+}
+
+static unsigned wide_conditions(enum family f, const struct knobs *k, const uint8_t *variables, uint8_t *at) {
+  unsigned c = 0, last = k->variables - 1;
+  for (unsigned v = 0; v <= last; v++) {
+    if (f == CLASS_OF_SET) put_condition(at + 8 * c++, v, 2, 0, 0, 0, 0, (variables[v] >> 4) - 1u);
+    if (f == LAST_SELDOM) put_condition(at + 8 * c++, v, 2, 0, 0, 0, 0, v == last);
+    if (f == OUT_OF_ORDER && v > 0 && v + 1 >= last) put_condition(at + 8 * c++, v, 2, 0, 0, 0, 0, v == last ? 2 : 1);
+    if (f == ONE_FOR_TWO && v > 0 && v + 1 >= last) put_condition(at + 8 * c++, v, 2, 0, 0, 0, 0, 1);
+    if (f == SAME_CORE && v > 0) put_condition(at + 8 * c++, v, 0, 0, 1, 0, 0, 0);
+    if (f == SLOT_AT_MOST && v > 0) put_condition(at + 8 * c++, v - 1, 3, 2, 1, v, 3, 0);
+  }
+  if (f == LAST_FAILS && last > 0) put_condition(at + 8 * c++, last, 3, 3, 1, 0, 3, 0);
+  return c;
+}
+
+static void first_in_own_set(unsigned count, uint8_t *variables) {
+  for (unsigned v = 1; v < count; v++) variables[v] = (uint8_t)(0x20 | (variables[v] & 8));
+}
+
+static void last_in_own_set(unsigned count, uint8_t *variables) {
+  if (count > 1 && variables[count - 1] >> 4 == variables[count - 2] >> 4)
+    variables[count - 1] = (uint8_t)(variables[count - 1] + 0x10);
+}
+
+/* The records of the seldom events, or past them all, and how many of one class follow each other. */
+struct turns {
+  unsigned early, late, run;
+};
+
+static unsigned class_at(enum family f, const struct knobs *k, const struct turns *t, unsigned record) {
+  switch (f) {
+    case CLASS_OF_SET: return record / t->run % k->sets;
+    case LAST_SELDOM:
+    case ONE_FOR_TWO: return record == t->late;
+    case OUT_OF_ORDER: return record == t->late ? 2 : record == t->early || record > t->late;
+    default: return 0;
+  }
+}
+
+static void wide_block(struct random *r, enum family f, const struct knobs *k, unsigned gap, struct test_case *out) {
+  unsigned cores_turn = below(r, 2), slots = PICK(r, 1, 2, 4, 1000);
+  struct turns turns = {.early = PICK(r, 1, 2, 3, k->records, k->records, k->records), .run = PICK(r, 1, 8, 30)};
+  turns.late = chance(r, 40) ? k->records : between(r, k->records / 2, k->records - 1);
+  uint64_t time = below(r, 100);
+  out->block_len = 16 * (size_t)k->records;
+  memset(out->block, 0, out->block_len + 16);
+  for (unsigned i = 0; i < k->records; i++, time += 1 + below(r, (unsigned)k->time_step)) {
+    uint8_t *at = out->block + 16 * (size_t)i;
+    set_field(at, 16, 40, time);
+    if (i == gap) {
+      set_field(at, 0, 2, 1);
+      set_field(at, 56, 32, 1);
+      continue;
+    }
+    set_field(at, 8, 8, class_type[class_at(f, k, &turns, i)]);
+    if (f == SAME_CORE) set_field(at, 2, 6, cores_turn == 1 ? i % k->cores : below(r, k->cores));
+    if (f == SLOT_AT_MOST) set_field(at, 56, 32, below(r, slots));
+    if (f == LAST_FAILS) set_field(at, 56, 32, i == turns.late);
+  }
+}
+
+void make_wide(struct random *r, struct test_case *out) {
+  enum family f =
+      (enum family)PICK(r, NO_CONDITIONS, NO_CONDITIONS, CLASS_OF_SET, CLASS_OF_SET, LAST_SELDOM, LAST_SELDOM,
+                        OUT_OF_ORDER, ONE_FOR_TWO, SAME_CORE, SAME_CORE, SLOT_AT_MOST, LAST_FAILS);
+  struct knobs k;
+  struct sizes size;
+  wide_knobs(r, f, &k, &size);
+  wide_block(r, f, &k, size.gap, out);
+  memset(out->pattern, 0, PATTERN_ROOM);
+  put_variables(r, &k, out->pattern + 8);
+  if (k.first_single) first_in_own_set(k.variables, out->pattern + 8);
+  if (f == OUT_OF_ORDER) last_in_own_set(k.variables, out->pattern + 8);
+  unsigned c = wide_conditions(f, &k, out->pattern + 8, out->pattern + 8 + k.variables);
+  put_header(r, &k, c, out);
+}
