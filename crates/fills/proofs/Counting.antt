@@ -1,6 +1,6 @@
 -- How many numbers pass two tests, where one of them passes one number more; and a mask without the bits of another.
 -- Assumes nothing.
-use mathlib.Core.Path.{_≡_, refl, sym, ap, ap₂, _∙_}
+use mathlib.Core.Path.{_≡_, refl, sym, ap, _∙_}
 use mathlib.Core.Bool.{Bool, true, false, not, _&&_, _||_}
 use Prim.Native.Nat.{ℕ, zero, suc, _+_, _-_, _*_, _^_, _≤_, _<_}
 use native.Mathlib.Omega.{arith}
@@ -15,7 +15,6 @@ use Rattle.numbers.proofs.Cases.{by-test, by-order}
 use Rattle.numbers.proofs.Count.{count-ext, oneIf-bound}
 use Rattle.numbers.proofs.Bits.{bit-and, bit-without, bits-same, mask-bound, mask-inside, mask-of-bits}
 use Rattle.numbers.proofs.Lowest.{trailing-lowest}
-use Rattle.automaton.proofs.Membership.{clash}
 
 -- ## Counts
 

@@ -3,7 +3,7 @@
 use mathlib.Core.Path.{_≡_, refl, sym, ap, subst, _∙_}
 use mathlib.Core.Bool.{Bool, true, false, _&&_, _||_}
 use mathlib.Core.List.{List}
-use Prim.Native.Nat.{ℕ, suc, _+_, _-_, _^_, _≤_, _<_, max}
+use Prim.Native.Nat.{ℕ, _+_, _-_, _^_, _≤_, _<_, max}
 use native.Mathlib.Omega.{arith}
 use lib.Bits.{bitAnd}
 use lib.Dec.{eqb}
@@ -19,7 +19,7 @@ use Rattle.automaton.proofs.Membership.{clash}
 use Rattle.rule.specs.Rule.{Reading, binds, fires}
 use Rattle.rule.specs.Starts.{withBinding}
 use Rattle.slots.specs.Slots.{heldIn}
-use Rattle.firing.specs.Firing.{canBy, joinsBy, ReadBelow}
+use Rattle.firing.specs.Firing.{canBy, ReadBelow}
 use Rattle.reach.specs.declared.Start.{Start}
 use Rattle.reach.specs.Readings.{Cans, Reads, Ready, Of}
 use Rattle.reach.specs.Growing.{Grows}

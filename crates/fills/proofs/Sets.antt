@@ -1,16 +1,13 @@
 -- One set after another: while a variable of the next set is unbound, no variable of a later one is bound. Assumes
 -- nothing.
-use mathlib.Core.Path.{_≡_, refl, sym, ap, ap₂, subst, _∙_}
+use mathlib.Core.Path.{_≡_, sym, ap, ap₂, subst, _∙_}
 use mathlib.Core.Bool.{Bool, true, false, not, _&&_, _||_}
 use mathlib.Core.List.{List}
-use Prim.Native.Nat.{ℕ, suc, _+_, _-_, _^_, _≤_, _<_}
+use Prim.Native.Nat.{ℕ, _-_, _^_, _≤_, _<_}
 use native.Mathlib.Omega.{arith}
-use native.Mathlib.Nat.{lt-of-lt-of-le}
 use borrow.Author.Tests.{ltb-true, lt-ltb, eqb-true, not-true}
 use lib.Bits.{bitAnd, bitOr}
-use lib.Dec.{eqb, ltb}
-use lib.Pow.{pow-mono}
-use Rattle.numbers.specs.Numbers.{every}
+use lib.Dec.{eqb}
 use Rattle.numbers.specs.Bits.{bit, mask, within, disjoint}
 use Rattle.numbers.proofs.Cases.{by-test, by-order, neither, both}
 use Rattle.numbers.proofs.Every.{every-true}
@@ -22,8 +19,6 @@ use Rattle.patterns.specs.Checked.{setOf}
 use Rattle.automaton.proofs.Membership.{clash}
 use Rattle.automaton.proofs.All.{all-upto}
 use Rattle.rule.specs.Rule.{Reading, binds, fires, isFull}
-use Rattle.rule.specs.Starts.{withBinding}
-use Rattle.rule.proofs.LiveReadings.{fires-variable}
 use Rattle.slots.specs.Slots.{Held, heldIn, stateIn, holding}
 use Rattle.slots.proofs.Holding.{holding-bit}
 use Rattle.firing.specs.Plan.{beforeIn, afterIn, standing, stands, variableMask}

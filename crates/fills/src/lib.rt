@@ -1,7 +1,7 @@
 // Whether a reading can still become full.
 ghost use mathlib.Core.Path.{_≡_};
 ghost use mathlib.Core.Bool.{false};
-ghost use Prim.Native.Nat.{_^_, _<_, _≤_, max};
+ghost use Prim.Native.Nat.{_^_, _<_, max};
 ghost use Rattle.patterns.specs.Patterns.{mostVariables};
 ghost use Rattle.firing.specs.Firing.{Fit};
 ghost use Rattle.reach.specs.Readings.{Cans, Ready};

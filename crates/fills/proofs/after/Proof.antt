@@ -1,8 +1,7 @@
 -- `fills::after` meets its contract. The loop's invariant: no reading has bound more of x than `taken` before record i,
 -- nor all of x before an earlier one. Assumes nothing.
 use native.Mathlib.Omega.{arith}
-use mathlib.Core.Path.{_≡_, sym, ap, subst, _∙_}
-use mathlib.Core.Bool.{Bool, false}
+use mathlib.Core.Path.{_≡_, subst}
 use Prim.Native.Nat.{ℕ, _+_, _-_, _≤_, _<_}
 use Rattle.numbers.specs.Numbers.{oneIf}
 use Rattle.numbers.proofs.Count.{oneIf-bound}

@@ -2,14 +2,11 @@
 -- record `from`. Assumes nothing.
 use native.Mathlib.Omega.{arith}
 use native.Mathlib.Nat.{lt-of-lt-of-le}
-use mathlib.Core.Path.{_≡_, refl, sym, ap, subst, _∙_}
-use mathlib.Core.Bool.{true}
-use Prim.Native.Nat.{ℕ, _-_, _^_, _≤_, _<_}
+use mathlib.Core.Path.{refl, sym, subst}
+use Prim.Native.Nat.{ℕ, _-_, _≤_}
 use lib.Bits.{bitAnd, and-le-l}
 use lib.Pow.{pow-mono}
-use Rattle.patterns.specs.Patterns.{mostVariables}
 use Rattle.automaton.proofs.Membership.{clash}
-use Rattle.reach.specs.Readings.{leavingBy}
 use Rattle.fills.specs.Filling.{Within}
 use Rattle.fills.proofs.Sets.{next-is, within-state, without-next, within-more, never-full}
 use borrow.Author.Needs.{needs}

@@ -1,8 +1,8 @@
 -- `fills::needed` meets its contract: what some variables of the set need, the set needs. Assumes nothing.
 use native.Mathlib.Omega.{arith}
-use mathlib.Core.Path.{_≡_, sym, ap, subst, _∙_}
+use mathlib.Core.Path.{_≡_, sym, subst, _∙_}
 use mathlib.Core.Bool.{true}
-use Prim.Native.Nat.{ℕ, _-_, _^_, _≤_, _<_, max}
+use Prim.Native.Nat.{ℕ, _-_, _^_, _≤_, _<_}
 use lib.Bits.{and-le-l}
 use Rattle.numbers.specs.Bits.{bit}
 use Rattle.numbers.proofs.Bits.{bit-and}
