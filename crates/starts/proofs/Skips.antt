@@ -161,7 +161,7 @@ branch-all plan bytes s slot j firing at p o =
     all-taken plan bytes s slot j firing (at .fire) (at .all) (at .some) p o
 
 -- why nothing found of the slot's reading changes the answer
-settled-idle :
+pub settled-idle :
     (plan bytes : List ℕ) (s : Start) (slot : List ℕ) (j : ℕ) → j ≤ s .until → (memory : List ℕ) (counts : Counts)
     → counts .used ≤ stop
     → counts .readings ≤ stop

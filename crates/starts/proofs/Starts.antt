@@ -1,7 +1,7 @@
 -- One start after another: what each way out of a start comes to, and what is left to be done. Assumes nothing.
 use mathlib.Core.Path.{_≡_, sym, ap, subst, _∙_}
 use mathlib.Core.List.{List, [], List·Memᴰ}
-use Prim.Native.Nat.{ℕ, suc, _+_, _-_, _≤_, _<_, _^_}
+use Prim.Native.Nat.{ℕ, suc, _+_, _-_, _/_, _≤_, _<_, _^_}
 use native.Mathlib.Numerals.{add-one}
 use native.Mathlib.Omega.{arith}
 use lib.Dec.{eqb}
@@ -19,17 +19,18 @@ use Rattle.rule.proofs.SkipBranch.{start-event, found-end, found-all, found-fir
 use Rattle.rule.proofs.SkipBranch.{start-gap as found-gap}
 use Rattle.slots.specs.Slots.{slotBytes, countIn, heldIn}
 use Rattle.reach.specs.declared.Start.{Start}
+use Rattle.starts.specs.declared.Counts.{Counts}
 use Rattle.starts.specs.declared.Window.{Window}
-use Rattle.starts.specs.Sinks.{Sink, emits, Same}
+use Rattle.starts.specs.Sinks.{Sink, sinkOf, stop, emits, Same}
 use Rattle.starts.specs.Sinks.Same.{equal}
 use Rattle.reach.specs.Readings.{firingBy, Usable, Of}
-use Rattle.starts.specs.Skips.{By, Firing, Branching, giveUp, Branched, branchOver, WindowIs, Floor, AllStarted}
+use Rattle.starts.specs.Skips.{By, Firing, Branching, Settled, giveUp, Branched, branchOver, WindowIs, Floor, AllStarted}
 use Rattle.starts.proofs.Sinks.{emits-append}
-use Rattle.starts.proofs.Same.{same-refl, same-trans, same-emits}
+use Rattle.starts.proofs.Same.{same-refl, same-trans, same-emits, cut}
 use Rattle.reach.proofs.Readings.{nothing, firing-begins, firing-bound, empty-reads}
 use Rattle.starts.proofs.Windows.{is-event, is-gap}
 use Rattle.reach.proofs.MaskInTurn.{turn-none, mask-turn, low-bits}
-use Rattle.starts.proofs.Skips.{few-bits, all-taken}
+use Rattle.starts.proofs.Skips.{few-bits, all-taken, settled-idle}
 
 -- one start's findings are among all of them
 found-mem :
@@ -183,6 +184,24 @@ module _ (plan bytes : List ℕ) (n c duration most i : ℕ) (usable : Usable pl
                         let q = by-call p o in
                         floor .none p (q .0) (q .1) x (found-mem p (recordsOf bytes) i (omega (arith, length-records bytes)) (subst (List·Memᴰ (over x)) (whole-list p o) m));
                   };
+            }
+
+        -- a cut: where nothing can change the answer any more, the start is passed over
+        pub started-settled :
+            (memory : List ℕ) (counts : Counts) → Settled plan bytes s slot i counts (length memory / 2)
+            → counts .used ≤ stop → counts .readings ≤ stop
+            → Started plan bytes n c duration most i (sinkOf memory counts) (sinkOf memory counts)
+        started-settled memory counts settled used readings =
+            record {
+              found = λ p o d.
+                  let q = by-start p o d in
+                  let x : Sink = sinkOf memory counts in
+                  let within = start-firing size count .ready .within in
+                  subst (λ (k : ℕ). Same k x (emits x (startFound p (recordsOf bytes) i))) same-most
+                  (subst (λ (l : List Found). Same (s .most) x (emits x l)) (whole-list p q)
+                  (cut (s .most) x (skipUntil p (recordsOf bytes) (s .mark) (s .until) i (heldIn slot .bindings))
+                  (record { none = settled .above .none p q })
+                  (settled-idle plan bytes s slot i within memory counts used readings p q (settled .mute))));
             }
 
         pub started-branch :

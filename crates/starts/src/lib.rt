@@ -138,6 +138,18 @@ fn is_told(counts: Counts, room: usize, most: usize) -> bool
     most <= counts.readings
 }
 
+// Whether nothing is decided yet and the start has taken few branches: then none of them is asked what it can still come
+// to.
+fn is_early(counts: Counts, room: usize, most: usize) -> bool {
+    if PATIENCE <= counts.steps {
+        return false;
+    }
+    if counts.least < NO_RECORD {
+        return false;
+    }
+    !is_told(counts, room, most)
+}
+
 // Whether a report of the reading, held before record j, may still change the answer.
 fn may_report(
     block: &[u8],
@@ -269,20 +281,22 @@ fn skip(
     if slots::count_of(&bytes) == slots::MOST_BINDINGS {
         return note_over(counts, fire.at);
     }
-    if GIVE_UP <= counts.steps {
-        return counts;
-    }
-    if is_settled(
-        block,
-        plan,
-        cans,
-        s,
-        fire.at,
-        &bytes,
-        counts,
-        result.len() / 2,
-    ) {
-        return counts;
+    if !is_early(counts, result.len() / 2, s.most) {
+        if GIVE_UP <= counts.steps {
+            return counts;
+        }
+        if is_settled(
+            block,
+            plan,
+            cans,
+            s,
+            fire.at,
+            &bytes,
+            counts,
+            result.len() / 2,
+        ) {
+            return counts;
+        }
     }
     branch(
         block,
@@ -430,6 +444,7 @@ fn each_start(
         }
         let w = window_at(block, duration, i, opened);
         opened = w.until;
+        counts = begun(counts);
         let s = reach::Start {
             n,
             c,
@@ -440,7 +455,13 @@ fn each_start(
             most,
             limit,
         };
-        counts = branch(block, plan, cans, none, i, firing, s, result, begun(counts));
+        if !is_early(counts, result.len() / 2, most) {
+            if is_settled(block, plan, cans, s, i, &empty, counts, result.len() / 2) {
+                i += 1;
+                continue;
+            }
+        }
+        counts = branch(block, plan, cans, none, i, firing, s, result, counts);
         if GIVE_UP <= counts.steps {
             return counts;
         }

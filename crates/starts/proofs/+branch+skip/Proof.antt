@@ -25,6 +25,7 @@ use Rattle.starts.proofs.skip.Reads as skip
 use Rattle.starts.proofs.skip.Kinds as skip-kinds
 use Rattle.starts.proofs.+branch+skip.Lts-skip as skip-lts
 use Rattle.starts.proofs.close.Reads as close-reads
+use Rattle.starts.proofs.is_early.Reads as is-early-reads
 use Rattle.starts.proofs.is_settled.Reads as is-settled-reads
 use Rattle.starts.proofs.stepped.Reads as stepped-reads
 use Rattle.reach.proofs.next_fire.Reads as next-fire-reads
@@ -74,6 +75,8 @@ of-skip t = (
   count-of-reads.Learnt,
   note-over-reads.Asked,
   note-over-reads.Learnt,
+  is-early-reads.Asked,
+  is-early-reads.Learnt,
   is-settled-reads.Asked,
   is-settled-reads.Learnt,
   stepped-reads.Asked,
@@ -222,34 +225,25 @@ skip-returns-2 t c =
     skip-notes (a .plan .now) (a .block .now) (a .s) (a .slot .bytes) (a .j) (a .v) (st .pre .1 .0) (more .last .0) (more .ensures) (next .result) (next .ensures)
     (c .before .before .before .before .if1 .left) (omega (arith, count .ensures, c .before .if2 .taken)) (a .result .now) (a .counts) (note .result) (note .ensures .0) (note .ensures .1) (note .ensures .2) (note .ensures .3)
 
+skip-is-early-requires : (t : ℕ) → skip-lts.Need-is-early-requires (of-skip t) (skip-at t) skip.Post
+skip-is-early-requires t c κs = search needs
+
 skip-returns-3 : (t : ℕ) → skip-lts.Need-returns-3 (of-skip t) (skip-at t) skip.Post
 skip-returns-3 t c =
-    let st = c .before .before .before .before .before .before .before .before .before .before .before .before .before .before .before .before in
+    let st = c .before .before .before .before .before .before .before .before .before .before .before .before .before .before .before .before .before .before in
     let a = st .args in
-    let more = c .before .before .before .before .before .before .before .before .before .before .before .bind in
-    let next = c .before .before .before .before .before .before .before .before .next-fire in
-    let count = c .before .before .before .count-of .ensures in
-    let full = c .before .before .if2 .left in
-    let before = c .before .before .before .before .before .if1 .left in
-    skip-given-up (a .plan .now) (a .block .now) (a .s) (a .slot .bytes) (a .j) (a .v) (st .pre .1 .0) (more .last .0) (more .ensures) (next .result) (next .ensures) before (λ e. full (count ∙ e)) (sinkOf (a .result .now) (a .counts)) (c .if3 .taken)
+    let more = c .before .before .before .before .before .before .before .before .before .before .before .before .before .bind in
+    let next = c .before .before .before .before .before .before .before .before .before .before .next-fire in
+    let count = c .before .before .before .before .before .count-of .ensures in
+    let full = c .before .before .before .before .if2 .left in
+    let before = c .before .before .before .before .before .before .before .if1 .left in
+    skip-given-up (a .plan .now) (a .block .now) (a .s) (a .slot .bytes) (a .j) (a .v) (st .pre .1 .0) (more .last .0) (more .ensures) (next .result) (next .ensures) before (λ e. full (count ∙ e)) (sinkOf (a .result .now) (a .counts)) (c .if4 .taken)
 
 skip-slice-aggregate-is-settled : (t : ℕ) → skip-lts.Need-slice-aggregate-is-settled (of-skip t) (skip-at t) skip.Post
 skip-slice-aggregate-is-settled t c = search needs
 
 skip-is-settled-requires : (t : ℕ) → skip-lts.Need-is-settled-requires (of-skip t) (skip-at t) skip.Post
 skip-is-settled-requires t c κs =
-    let st = c .before .before .before .before .before .before .before .before .before .before .before .before .before .before .before .before .before in
-    let a = st .args in
-    let more = c .before .before .before .before .before .before .before .before .before .before .before .before .bind in
-    let next = c .before .before .before .before .before .before .before .before .before .next-fire in
-    let count = c .before .before .before .before .count-of .ensures in
-    let full = c .before .before .before .if2 .left in
-    let before = c .before .before .before .before .before .before .if1 .left in
-    let at = next-branching (a .plan .now) (a .block .now) (a .s) (a .slot .bytes) (a .j) (a .v) (st .pre .1 .0) (more .last .0) (more .ensures) (next .result) (next .ensures) before (λ e. full (count ∙ e)) in
-    (at .fire .ready, st .pre .1 .1, at .above)
-
-skip-returns-4 : (t : ℕ) → skip-lts.Need-returns-4 (of-skip t) (skip-at t) skip.Post
-skip-returns-4 t c =
     let st = c .before .before .before .before .before .before .before .before .before .before .before .before .before .before .before .before .before .before .before in
     let a = st .args in
     let more = c .before .before .before .before .before .before .before .before .before .before .before .before .before .before .bind in
@@ -257,13 +251,11 @@ skip-returns-4 t c =
     let count = c .before .before .before .before .before .before .count-of .ensures in
     let full = c .before .before .before .before .before .if2 .left in
     let before = c .before .before .before .before .before .before .before .before .if1 .left in
-    skip-settled (a .plan .now) (a .block .now) (a .s) (a .slot .bytes) (a .j) (a .v) (st .pre .1 .0) (more .last .0) (more .ensures) (next .result) (next .ensures) before (λ e. full (count ∙ e)) (a .result .now) (a .counts) (c .before .is-settled .ensures (c .if4 .taken)) (omega (arith, c .before .before .before .before .struct-known3)) (omega (arith, c .before .before .before .before .struct-known3))
+    let at = next-branching (a .plan .now) (a .block .now) (a .s) (a .slot .bytes) (a .j) (a .v) (st .pre .1 .0) (more .last .0) (more .ensures) (next .result) (next .ensures) before (λ e. full (count ∙ e)) in
+    (at .fire .ready, st .pre .1 .1, at .above)
 
-skip-stepped-requires : (t : ℕ) → skip-lts.Need-stepped-requires (of-skip t) (skip-at t) skip.Post
-skip-stepped-requires t c κs = search needs
-
-skip-branch-requires : (t : ℕ) → skip-lts.Need-branch-requires (of-skip t) (skip-at t) skip.Post
-skip-branch-requires t c κs =
+skip-returns-4 : (t : ℕ) → skip-lts.Need-returns-4 (of-skip t) (skip-at t) skip.Post
+skip-returns-4 t c =
     let st = c .before .before .before .before .before .before .before .before .before .before .before .before .before .before .before .before .before .before .before .before .before in
     let a = st .args in
     let more = c .before .before .before .before .before .before .before .before .before .before .before .before .before .before .before .before .bind in
@@ -271,6 +263,21 @@ skip-branch-requires t c κs =
     let count = c .before .before .before .before .before .before .before .before .count-of .ensures in
     let full = c .before .before .before .before .before .before .before .if2 .left in
     let before = c .before .before .before .before .before .before .before .before .before .before .if1 .left in
+    let known = c .before .before .before .before .struct-known3 in
+    skip-settled (a .plan .now) (a .block .now) (a .s) (a .slot .bytes) (a .j) (a .v) (st .pre .1 .0) (more .last .0) (more .ensures) (next .result) (next .ensures) before (λ e. full (count ∙ e)) (a .result .now) (a .counts) (c .before .is-settled .ensures (c .if5 .taken)) (omega (arith, known)) (omega (arith, known))
+
+skip-stepped-requires : (t : ℕ) → skip-lts.Need-stepped-requires (of-skip t) (skip-at t) skip.Post
+skip-stepped-requires t c κs = search needs
+
+skip-branch-requires : (t : ℕ) → skip-lts.Need-branch-requires (of-skip t) (skip-at t) skip.Post
+skip-branch-requires t c κs =
+    let st = c .before .before .before .before .before .before .before .before .before .before .before .before .before .before .before .before .before .before in
+    let a = st .args in
+    let more = c .before .before .before .before .before .before .before .before .before .before .before .before .before .bind in
+    let next = c .before .before .before .before .before .before .before .before .before .before .next-fire in
+    let count = c .before .before .before .before .before .count-of .ensures in
+    let full = c .before .before .before .before .if2 .left in
+    let before = c .before .before .before .before .before .before .before .if1 .left in
     let at = next-branching (a .plan .now) (a .block .now) (a .s) (a .slot .bytes) (a .j) (a .v) (st .pre .1 .0) (more .last .0) (more .ensures) (next .result) (next .ensures) before (λ e. full (count ∙ e)) in
     let end = at .fire .before in
     let from = next .ensures .from in
@@ -282,13 +289,13 @@ skip-same-length-2 t c = search needs
 
 skip-returns-5 : (t : ℕ) → skip-lts.Need-returns-5 (of-skip t) (skip-at t) skip.Post
 skip-returns-5 t c =
-    let st = c .before .before .before .before .before .before .before .before .before .before .before .before .before .before .before .before .before .before .before .before .before .before .before .before in
+    let st = c .before .before .before .before .before .before .before .before .before .before .before .before .before .before .before .before .before .before .before .before .before in
     let a = st .args in
-    let more = c .before .before .before .before .before .before .before .before .before .before .before .before .before .before .before .before .before .before .before .bind in
-    let next = c .before .before .before .before .before .before .before .before .before .before .before .before .before .before .before .before .next-fire in
-    let count = c .before .before .before .before .before .before .before .before .before .before .before .count-of .ensures in
-    let full = c .before .before .before .before .before .before .before .before .before .before .if2 .left in
-    let before = c .before .before .before .before .before .before .before .before .before .before .before .before .before .if1 .left in
+    let more = c .before .before .before .before .before .before .before .before .before .before .before .before .before .before .before .before .bind in
+    let next = c .before .before .before .before .before .before .before .before .before .before .before .before .before .next-fire in
+    let count = c .before .before .before .before .before .before .before .before .count-of .ensures in
+    let full = c .before .before .before .before .before .before .before .if2 .left in
+    let before = c .before .before .before .before .before .before .before .before .before .before .if1 .left in
     let o = c .before .before .before .stepped in
     let call = c .before .before .branch in
     skip-branches (a .plan .now) (a .block .now) (a .s) (a .slot .bytes) (a .j) (a .v) (st .pre .1 .0) (more .last .0) (more .ensures) (next .result) (next .ensures) before (λ e. full (count ∙ e)) (a .result .now) (a .counts) (o .result) (o .ensures .0) (o .ensures .1) (o .ensures .2) (o .ensures .3) (o .ensures .4)
@@ -324,6 +331,7 @@ pub +branch+skip-spec : {M : Type 1} → statement M
     (skip-count-of-requires t)
     (skip-note-over-requires t)
     (skip-returns-2 t)
+    (skip-is-early-requires t)
     (skip-returns-3 t)
     (skip-slice-aggregate-is-settled t)
     (skip-is-settled-requires t)

@@ -13,16 +13,16 @@ use Rattle.starts.specs.Sinks.{sinkOf, noneYet}
 use Rattle.starts.specs.Skips.{OpenTo, giveUp, AllStarted}
 use Rattle.reach.proofs.Masks.{read-bound, first-read}
 use Rattle.starts.proofs.Windows.{open-none, open-later}
-use Rattle.starts.proofs.Starts.{started-gap, started-none, start-branching, started-branch, Left, left-all}
+use Rattle.starts.proofs.Starts.{started-gap, started-none, start-branching, started-settled, started-branch, Left, left-all}
 use Rattle.starts.proofs.Starts.{left-more, left-begun, left-none}
 use Rattle.starts.proofs.each_start.Statement.{statement}
 use Rattle.starts.proofs.each_start.Tie as tie
 
 abbrev Inv-loop : tie.InvT-loop
-Inv-loop block plan n c duration cans floor most limit result₀ counts₀ first none count opened₀ i₀ result counts opened i = (i ≤ count) × (count ≡ recordCount block) × (length result ≡ length result₀) × Left plan block n c duration most i (sinkOf result₀ noneYet) (sinkOf result counts) × (counts .steps < giveUp) × (opened ≤ count) × OpenTo block duration i opened
+Inv-loop block plan n c duration cans floor most limit result₀ counts₀ first empty none count opened₀ i₀ result counts opened i = (i ≤ count) × (count ≡ recordCount block) × (length result ≡ length result₀) × Left plan block n c duration most i (sinkOf result₀ noneYet) (sinkOf result counts) × (counts .steps < giveUp) × (opened ≤ count) × OpenTo block duration i opened
 
 abbrev μ-loop : tie.MeasureT-loop
-μ-loop block plan n c duration cans floor most limit result₀ counts₀ first none count opened₀ i₀ result counts opened i = count - i
+μ-loop block plan n c duration cans floor most limit result₀ counts₀ first empty none count opened₀ i₀ result counts opened i = count - i
 
 leaving-requires : tie.Need-leaving-requires Inv-loop μ-loop
 leaving-requires c κs = let usable = c .before .before .pre .0 in (usable .sound .size, usable .variables)
@@ -109,71 +109,26 @@ window-at-requires c κs =
 begun-requires : tie.Need-begun-requires Inv-loop μ-loop
 begun-requires c κs = search needs
 
-branch-requires : tie.Need-branch-requires Inv-loop μ-loop
-branch-requires c κs =
-    let st = c .before .before .before .before .before .before .before .before .before .before .before .before .before .before in
+is-early-requires : tie.Need-is-early-requires Inv-loop μ-loop
+is-early-requires c κs = search needs
+
+slice-aggregate-is-settled : tie.Need-slice-aggregate-is-settled Inv-loop μ-loop
+slice-aggregate-is-settled c = search needs
+
+is-settled-requires : tie.Need-is-settled-requires Inv-loop μ-loop
+is-settled-requires c κs =
+    let st = c .before .before .before .before .before .before .before .before .before .before .before .before .before .before .before .before in
     let a = st .args in
-    let h = c .before .before .before .before .before .before .before .before .before .loop in
-    let inside = c .before .before .before .before .before .before .before .before .loop-test .taken in
-    let first = c .before .before .before .before .before .before .before .before .before .before .before .leaving in
-    let empty = c .before .before .before .before .before .before .before .before .before .before .empty-slot in
-    let w = c .before .before .window-at in
-    let kind = ap (λ (x : Record). x .kind) (c .before .before .before .before .before .unpack .ensures) in
-    let is = first-read (a .plan .now) (a .block .now) (a .n) (a .c) (st .pre .0 .variables) (a .cans .now) (st .pre .1) (h .i) inside (first .result) (first .ensures) in (
-      start-branching (a .plan .now) (a .block .now) (a .n) (a .c) (a .duration) (a .most) (h .i) (st .pre .0) inside (bitAnd (getD (a .cans .now) (h .i) 0) (first .result)) is (sym kind ∙ c .before .before .before .if2 .left) (empty .result) (empty .ensures .0)
-          (record {
-            n = a .n;
-            c = a .c;
-            duration = a .duration;
-            until = w .result .until;
-            mark = w .result .mark;
-            floor = a .floor;
-            most = a .most;
-            limit = a .limit;
-          })
-          (w .result) (w .ensures) refl (empty .ensures .1) (empty .ensures .2) (c .before .before .before .before .before .before .if1 .left) (st .pre .2),
-      st .pre .1,
-    )
-
-same-length : tie.Need-same-length Inv-loop μ-loop
-same-length c = c .before .before .before .before .branch .kept .1 .1 .1 .1 .1 .1 .1 .0 ∙ c .before .before .before .before .before .before .before .before .before .before .before .before .before .before .loop .inv .2
-
-returns : tie.Need-returns Inv-loop μ-loop
-returns c =
-    let st = c .before .before .before .before .before .before .before .before .before .before .before .before .before .before .before .before .before .before .before in
-    let call = c .before .before .before .before .branch in
-    let begun = c .before .before .before .before .before .begun in
-    let none = ap (λ (x : Counts). x .steps) (begun .ensures) in
-    let many = c .if3 .taken in
-    record {
-      bounded = λ small. let few = call .ensures .led .bounded (omega arith) in absurd (omega arith);
-      found = λ few p o d. absurd (omega arith);
-    }
-
-add-i-3 : tie.Need-add-i-3 Inv-loop μ-loop
-add-i-3 c = search needs
-
-loop-less-3 : tie.Need-loop-less-3 Inv-loop μ-loop
-loop-less-3 c = search needs
-
-loop-again-3 : tie.Need-loop-again-3 Inv-loop μ-loop
-loop-again-3 c =
-    let st = c .before .before .before .before .before .before .before .before .before .before .before .before .before .before .before .before .before .before .before in
-    let a = st .args in
-    let h = c .before .before .before .before .before .before .before .before .before .before .before .before .before .before .loop in
-    let inside = c .before .before .before .before .before .before .before .before .before .before .before .before .before .loop-test .taken in
-    let first = c .before .before .before .before .before .before .before .before .before .before .before .before .before .before .before .before .leaving in
-    let empty = c .before .before .before .before .before .before .before .before .before .before .before .before .before .before .before .empty-slot in
-    let w = c .before .before .before .before .before .before .before .window-at in
-    let begun = c .before .before .before .before .before .begun in
-    let call = c .before .before .before .before .branch in
-    let few : call .result .steps < giveUp = omega (arith, c .if3 .left) in
-    let now = sinkOf (h .result) (h .counts) in
-    let then = sinkOf (h .result) (begun .result) in
-    let after = sinkOf (call .last .1 .1 .1 .1 .1 .1 .1 .0) (call .result) in
-    let kind = ap (λ (x : Record). x .kind) (c .before .before .before .before .before .before .before .before .before .before .unpack .ensures) in
+    let h = c .before .before .before .before .before .before .before .before .before .before .before .loop in
+    let inside = c .before .before .before .before .before .before .before .before .before .before .loop-test .taken in
+    let first = c .before .before .before .before .before .before .before .before .before .before .before .before .before .leaving in
+    let empty = c .before .before .before .before .before .before .before .before .before .before .before .before .empty-slot in
+    let w = c .before .before .before .before .window-at in
+    let event = c .before .before .before .before .before .if2 .left in
+    let some = c .before .before .before .before .before .before .before .before .if1 .left in
+    let kind = ap (λ (x : Record). x .kind) (c .before .before .before .before .before .before .before .unpack .ensures) in
     let is = first-read (a .plan .now) (a .block .now) (a .n) (a .c) (st .pre .0 .variables) (a .cans .now) (st .pre .1) (h .i) inside (first .result) (first .ensures) in
-    let done = started-branch (a .plan .now) (a .block .now) (a .n) (a .c) (a .duration) (a .most) (h .i) (st .pre .0) inside (bitAnd (getD (a .cans .now) (h .i) 0) (first .result)) is (sym kind ∙ c .before .before .before .before .before .before .before .before .if2 .left) (empty .result) (empty .ensures .0)
+    let at = start-branching (a .plan .now) (a .block .now) (a .n) (a .c) (a .duration) (a .most) (h .i) (st .pre .0) inside (bitAnd (getD (a .cans .now) (h .i) 0) (first .result)) is (sym kind ∙ event) (empty .result) (empty .ensures .0)
     (record {
       n = a .n;
       c = a .c;
@@ -184,10 +139,139 @@ loop-again-3 c =
       most = a .most;
       limit = a .limit;
     })
-    (w .result) (w .ensures) refl (empty .ensures .1) (empty .ensures .2) (c .before .before .before .before .before .before .before .before .before .before .before .if1 .left) (st .pre .2)
-    then after few (call .ensures) in
+    (w .result) (w .ensures) refl (empty .ensures .1) (empty .ensures .2) some (st .pre .2) in
+    (at .fire .ready, st .pre .1, at .above)
+
+add-i-3 : tie.Need-add-i-3 Inv-loop μ-loop
+add-i-3 c = search needs
+
+loop-less-3 : tie.Need-loop-less-3 Inv-loop μ-loop
+loop-less-3 c = search needs
+
+loop-again-3 : tie.Need-loop-again-3 Inv-loop μ-loop
+loop-again-3 c =
+    let st = c .before .before .before .before .before .before .before .before .before .before .before .before .before .before .before .before .before .before in
+    let a = st .args in
+    let h = c .before .before .before .before .before .before .before .before .before .before .before .before .before .loop in
+    let inside = c .before .before .before .before .before .before .before .before .before .before .before .before .loop-test .taken in
+    let first = c .before .before .before .before .before .before .before .before .before .before .before .before .before .before .before .leaving in
+    let empty = c .before .before .before .before .before .before .before .before .before .before .before .before .before .before .empty-slot in
+    let w = c .before .before .before .before .before .before .window-at in
+    let event = c .before .before .before .before .before .before .before .if2 .left in
+    let some = c .before .before .before .before .before .before .before .before .before .before .if1 .left in
+    let kind = ap (λ (x : Record). x .kind) (c .before .before .before .before .before .before .before .before .before .unpack .ensures) in
+    let is = first-read (a .plan .now) (a .block .now) (a .n) (a .c) (st .pre .0 .variables) (a .cans .now) (st .pre .1) (h .i) inside (first .result) (first .ensures) in
+    let begun = c .before .before .before .before .before .begun in
+    let now = sinkOf (h .result) (h .counts) in
+    let then = sinkOf (h .result) (begun .result) in
     let left = left-begun (a .plan .now) (a .block .now) (a .n) (a .c) (a .duration) (a .most) (sinkOf (a .result .now) noneYet) (h .i) now (h .inv .3) then refl
-    (ap (λ (x : Counts). x .used) (begun .ensures)) (ap (λ (x : Counts). x .readings) (begun .ensures)) (ap (λ (x : Counts). x .least) (begun .ensures)) in (
+    (ap (λ (x : Counts). x .used) (begun .ensures)) (ap (λ (x : Counts). x .readings) (begun .ensures)) (ap (λ (x : Counts). x .least) (begun .ensures)) in
+    let zero = ap (λ (x : Counts). x .steps) (begun .ensures) in
+    let done = started-settled (a .plan .now) (a .block .now) (a .n) (a .c) (a .duration) (a .most) (h .i) (st .pre .0) inside (bitAnd (getD (a .cans .now) (h .i) 0) (first .result)) is (sym kind ∙ event) (empty .result) (empty .ensures .0)
+    (record {
+      n = a .n;
+      c = a .c;
+      duration = a .duration;
+      until = w .result .until;
+      mark = w .result .mark;
+      floor = a .floor;
+      most = a .most;
+      limit = a .limit;
+    })
+    (w .result) (w .ensures) refl (empty .ensures .1) (empty .ensures .2) some (st .pre .2)
+    (h .result) (begun .result) (c .before .is-settled .ensures (c .if4 .taken)) (omega arith) (omega arith) in (
+      search needs,
+      refl,
+      h .inv .2,
+      left-more (a .plan .now) (a .block .now) (a .n) (a .c) (a .duration) (a .most) (sinkOf (a .result .now) noneYet) (h .i) then left inside then done,
+      omega arith,
+      w .ensures .block,
+      open-later (a .block .now) (a .duration) (h .i) (w .result .until) (st .pre .0 .rising) (w .ensures .block) (w .ensures .opened),
+    )
+
+branch-requires : tie.Need-branch-requires Inv-loop μ-loop
+branch-requires c κs =
+    let st = c .before .before .before .before .before .before .before .before .before .before .before .before .before .before .before .before in
+    let a = st .args in
+    let h = c .before .before .before .before .before .before .before .before .before .before .before .loop in
+    let inside = c .before .before .before .before .before .before .before .before .before .before .loop-test .taken in
+    let first = c .before .before .before .before .before .before .before .before .before .before .before .before .before .leaving in
+    let empty = c .before .before .before .before .before .before .before .before .before .before .before .before .empty-slot in
+    let w = c .before .before .before .before .window-at in
+    let event = c .before .before .before .before .before .if2 .left in
+    let some = c .before .before .before .before .before .before .before .before .if1 .left in
+    let kind = ap (λ (x : Record). x .kind) (c .before .before .before .before .before .before .before .unpack .ensures) in
+    let is = first-read (a .plan .now) (a .block .now) (a .n) (a .c) (st .pre .0 .variables) (a .cans .now) (st .pre .1) (h .i) inside (first .result) (first .ensures) in (
+      start-branching (a .plan .now) (a .block .now) (a .n) (a .c) (a .duration) (a .most) (h .i) (st .pre .0) inside (bitAnd (getD (a .cans .now) (h .i) 0) (first .result)) is (sym kind ∙ event) (empty .result) (empty .ensures .0)
+          (record {
+            n = a .n;
+            c = a .c;
+            duration = a .duration;
+            until = w .result .until;
+            mark = w .result .mark;
+            floor = a .floor;
+            most = a .most;
+            limit = a .limit;
+          })
+          (w .result) (w .ensures) refl (empty .ensures .1) (empty .ensures .2) some (st .pre .2),
+      st .pre .1,
+    )
+
+same-length : tie.Need-same-length Inv-loop μ-loop
+same-length c = c .before .before .before .before .branch .kept .1 .1 .1 .1 .1 .1 .1 .0 ∙ c .before .before .before .before .before .before .before .before .before .before .before .before .before .before .before .before .loop .inv .2
+
+returns : tie.Need-returns Inv-loop μ-loop
+returns c =
+    let call = c .before .before .before .before .branch in
+    let begun = c .before .before .before .before .before .before .before .before .begun in
+    let none = ap (λ (x : Counts). x .steps) (begun .ensures) in
+    let many = c .if5 .taken in
+    record {
+      bounded = λ small. let few = call .ensures .led .bounded (omega arith) in absurd (omega arith);
+      found = λ few p o d. absurd (omega arith);
+    }
+
+add-i-4 : tie.Need-add-i-4 Inv-loop μ-loop
+add-i-4 c = search needs
+
+loop-less-4 : tie.Need-loop-less-4 Inv-loop μ-loop
+loop-less-4 c = search needs
+
+loop-again-4 : tie.Need-loop-again-4 Inv-loop μ-loop
+loop-again-4 c =
+    let st = c .before .before .before .before .before .before .before .before .before .before .before .before .before .before .before .before .before .before .before .before .before in
+    let a = st .args in
+    let h = c .before .before .before .before .before .before .before .before .before .before .before .before .before .before .before .before .loop in
+    let inside = c .before .before .before .before .before .before .before .before .before .before .before .before .before .before .before .loop-test .taken in
+    let first = c .before .before .before .before .before .before .before .before .before .before .before .before .before .before .before .before .before .before .leaving in
+    let empty = c .before .before .before .before .before .before .before .before .before .before .before .before .before .before .before .before .before .empty-slot in
+    let w = c .before .before .before .before .before .before .before .before .before .window-at in
+    let event = c .before .before .before .before .before .before .before .before .before .before .if2 .left in
+    let some = c .before .before .before .before .before .before .before .before .before .before .before .before .before .if1 .left in
+    let kind = ap (λ (x : Record). x .kind) (c .before .before .before .before .before .before .before .before .before .before .before .before .unpack .ensures) in
+    let is = first-read (a .plan .now) (a .block .now) (a .n) (a .c) (st .pre .0 .variables) (a .cans .now) (st .pre .1) (h .i) inside (first .result) (first .ensures) in
+    let begun = c .before .before .before .before .before .before .before .before .begun in
+    let now = sinkOf (h .result) (h .counts) in
+    let then = sinkOf (h .result) (begun .result) in
+    let left = left-begun (a .plan .now) (a .block .now) (a .n) (a .c) (a .duration) (a .most) (sinkOf (a .result .now) noneYet) (h .i) now (h .inv .3) then refl
+    (ap (λ (x : Counts). x .used) (begun .ensures)) (ap (λ (x : Counts). x .readings) (begun .ensures)) (ap (λ (x : Counts). x .least) (begun .ensures)) in
+    let zero = ap (λ (x : Counts). x .steps) (begun .ensures) in
+    let call = c .before .before .before .before .branch in
+    let few : call .result .steps < giveUp = omega (arith, c .if5 .left) in
+    let after = sinkOf (call .last .1 .1 .1 .1 .1 .1 .1 .0) (call .result) in
+    let done = started-branch (a .plan .now) (a .block .now) (a .n) (a .c) (a .duration) (a .most) (h .i) (st .pre .0) inside (bitAnd (getD (a .cans .now) (h .i) 0) (first .result)) is (sym kind ∙ event) (empty .result) (empty .ensures .0)
+    (record {
+      n = a .n;
+      c = a .c;
+      duration = a .duration;
+      until = w .result .until;
+      mark = w .result .mark;
+      floor = a .floor;
+      most = a .most;
+      limit = a .limit;
+    })
+    (w .result) (w .ensures) refl (empty .ensures .1) (empty .ensures .2) some (st .pre .2)
+    then after few (call .ensures) in (
       search needs,
       refl,
       call .kept .1 .1 .1 .1 .1 .1 .1 .0 ∙ h .inv .2,
@@ -228,11 +312,17 @@ each-start-spec =
     loop-again-2
     window-at-requires
     begun-requires
-    branch-requires
-    same-length
-    returns
+    is-early-requires
+    slice-aggregate-is-settled
+    is-settled-requires
     add-i-3
     loop-less-3
     loop-again-3
+    branch-requires
+    same-length
+    returns
+    add-i-4
+    loop-less-4
+    loop-again-4
     same-length-2
     returns-2)
