@@ -78,6 +78,10 @@ pub record Settled (plan bytes : List ℕ) (s : Start) (slot : List ℕ) (j : �
 
 -- ## What is found, for each pattern that the plan is made of
 
+-- after so many branches of a start each one is asked what it can still come to
+abbrev pub patience : ℕ
+patience = 64
+
 -- a start that took so many branches was not looked at to its end
 abbrev pub giveUp : ℕ
 giveUp = 256

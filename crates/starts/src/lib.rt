@@ -20,7 +20,7 @@ ghost use Rattle.firing.specs.Firing.{Fit};
 ghost use Rattle.starts.specs.Sinks.{sinkOf, sum as sumTo, emit, emits, noneYet, answerBy, leftBy, measureBy};
 ghost use Rattle.reach.specs.Readings.{Cans, Reads, Usable, Ready};
 ghost use Rattle.reach.specs.Growing.{NeverFull, NoneOver};
-ghost use Rattle.starts.specs.Skips.{Above, Taking, Branching, Mute, Settled, Floor};
+ghost use Rattle.starts.specs.Skips.{Above, Taking, Branching, Mute, Settled, patience, Floor};
 ghost use Rattle.starts.specs.Skips.{Closed, Skipped, Branched, OpenTo, WindowIs, AllStarted, Passed};
 
 // The number of no record.
@@ -136,18 +136,6 @@ fn is_told(counts: Counts, room: usize, most: usize) -> bool
         return false;
     }
     most <= counts.readings
-}
-
-// Whether nothing is decided yet and the start has taken few branches: then none of them is asked what it can still come
-// to.
-fn is_early(counts: Counts, room: usize, most: usize) -> bool {
-    if PATIENCE <= counts.steps {
-        return false;
-    }
-    if counts.least < NO_RECORD {
-        return false;
-    }
-    !is_told(counts, room, most)
 }
 
 // Whether a report of the reading, held before record j, may still change the answer.
@@ -281,7 +269,7 @@ fn skip(
     if slots::count_of(&bytes) == slots::MOST_BINDINGS {
         return note_over(counts, fire.at);
     }
-    if !is_early(counts, result.len() / 2, s.most) {
+    if PATIENCE <= counts.steps {
         if GIVE_UP <= counts.steps {
             return counts;
         }
@@ -388,15 +376,29 @@ fn window_at(block: &[u8], duration: u64, i: usize, opened: usize) -> Window
     }
 }
 
+// How many branches a start counts before its first: none, or as many as are taken before each is asked what it can
+// still come to, where a binding too many is known or the counts are told.
+fn first_steps(counts: Counts, room: usize, most: usize) -> usize
+    ensures { λ r. ⌜ r ≤ patience ⌝ }
+{
+    if counts.least < NO_RECORD {
+        return PATIENCE;
+    }
+    if is_told(counts, room, most) {
+        return PATIENCE;
+    }
+    0
+}
+
 // The counts before a start's first branch.
-fn begun(counts: Counts) -> Counts
-    ensures { λ o. ⌜ o ≡ record { used = counts .used; readings = counts .readings; least = counts .least; steps = 0 } ⌝ }
+fn begun(counts: Counts, steps: usize) -> Counts
+    ensures { λ o. ⌜ o ≡ record { used = counts .used; readings = counts .readings; least = counts .least; steps = steps } ⌝ }
 {
     Counts {
         used: counts.used,
         readings: counts.readings,
         least: counts.least,
-        steps: 0,
+        steps,
     }
 }
 
@@ -416,7 +418,7 @@ fn each_start(
     result: &mut [u8],
 ) -> Counts
     requires { ⌜ (Usable (now plan) (now block) n c) × (Cans (now plan) (now block) n c (now cans))
-        × Floor (now plan) (now block) n c duration floor ⌝ }
+        × (Floor (now plan) (now block) n c duration floor) × (patience ≤ limit) ⌝ }
     ensures { λ o. ⌜ AllStarted (now (plan .entry)) (now (block .entry)) n c duration most limit
         (sinkOf (now (result .entry)) noneYet) (sinkOf (now (result .exit)) o) ⌝ }
 {
@@ -444,7 +446,7 @@ fn each_start(
         }
         let w = window_at(block, duration, i, opened);
         opened = w.until;
-        counts = begun(counts);
+        counts = begun(counts, first_steps(counts, result.len() / 2, most));
         let s = reach::Start {
             n,
             c,
@@ -455,7 +457,7 @@ fn each_start(
             most,
             limit,
         };
-        if !is_early(counts, result.len() / 2, most) {
+        if PATIENCE <= counts.steps {
             if is_settled(block, plan, cans, s, i, &empty, counts, result.len() / 2) {
                 i += 1;
                 continue;

@@ -25,7 +25,6 @@ use Rattle.starts.proofs.skip.Reads as skip
 use Rattle.starts.proofs.skip.Kinds as skip-kinds
 use Rattle.starts.proofs.+branch+skip.Lts-skip as skip-lts
 use Rattle.starts.proofs.close.Reads as close-reads
-use Rattle.starts.proofs.is_early.Reads as is-early-reads
 use Rattle.starts.proofs.is_settled.Reads as is-settled-reads
 use Rattle.starts.proofs.stepped.Reads as stepped-reads
 use Rattle.reach.proofs.next_fire.Reads as next-fire-reads
@@ -75,8 +74,6 @@ of-skip t = (
   count-of-reads.Learnt,
   note-over-reads.Asked,
   note-over-reads.Learnt,
-  is-early-reads.Asked,
-  is-early-reads.Learnt,
   is-settled-reads.Asked,
   is-settled-reads.Learnt,
   stepped-reads.Asked,
@@ -225,9 +222,6 @@ skip-returns-2 t c =
     skip-notes (a .plan .now) (a .block .now) (a .s) (a .slot .bytes) (a .j) (a .v) (st .pre .1 .0) (more .last .0) (more .ensures) (next .result) (next .ensures)
     (c .before .before .before .before .if1 .left) (omega (arith, count .ensures, c .before .if2 .taken)) (a .result .now) (a .counts) (note .result) (note .ensures .0) (note .ensures .1) (note .ensures .2) (note .ensures .3)
 
-skip-is-early-requires : (t : ℕ) → skip-lts.Need-is-early-requires (of-skip t) (skip-at t) skip.Post
-skip-is-early-requires t c κs = search needs
-
 skip-returns-3 : (t : ℕ) → skip-lts.Need-returns-3 (of-skip t) (skip-at t) skip.Post
 skip-returns-3 t c =
     let st = c .before .before .before .before .before .before .before .before .before .before .before .before .before .before .before .before .before .before in
@@ -263,7 +257,7 @@ skip-returns-4 t c =
     let count = c .before .before .before .before .before .before .before .before .count-of .ensures in
     let full = c .before .before .before .before .before .before .before .if2 .left in
     let before = c .before .before .before .before .before .before .before .before .before .before .if1 .left in
-    let known = c .before .before .before .before .struct-known3 in
+    let known = c .before .before .before .before .before .before .struct-known3 in
     skip-settled (a .plan .now) (a .block .now) (a .s) (a .slot .bytes) (a .j) (a .v) (st .pre .1 .0) (more .last .0) (more .ensures) (next .result) (next .ensures) before (λ e. full (count ∙ e)) (a .result .now) (a .counts) (c .before .is-settled .ensures (c .if5 .taken)) (omega (arith, known)) (omega (arith, known))
 
 skip-stepped-requires : (t : ℕ) → skip-lts.Need-stepped-requires (of-skip t) (skip-at t) skip.Post
@@ -331,7 +325,6 @@ pub +branch+skip-spec : {M : Type 1} → statement M
     (skip-count-of-requires t)
     (skip-note-over-requires t)
     (skip-returns-2 t)
-    (skip-is-early-requires t)
     (skip-returns-3 t)
     (skip-slice-aggregate-is-settled t)
     (skip-is-settled-requires t)

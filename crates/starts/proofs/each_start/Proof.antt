@@ -106,27 +106,27 @@ window-at-requires c κs =
     let h = c .before .before .before .before .before .before .loop in
     (c .before .before .before .before .before .loop-test .taken, h .inv .5, h .inv .6)
 
+first-steps-requires : tie.Need-first-steps-requires Inv-loop μ-loop
+first-steps-requires c κs = search needs
+
 begun-requires : tie.Need-begun-requires Inv-loop μ-loop
 begun-requires c κs = search needs
-
-is-early-requires : tie.Need-is-early-requires Inv-loop μ-loop
-is-early-requires c κs = search needs
 
 slice-aggregate-is-settled : tie.Need-slice-aggregate-is-settled Inv-loop μ-loop
 slice-aggregate-is-settled c = search needs
 
 is-settled-requires : tie.Need-is-settled-requires Inv-loop μ-loop
 is-settled-requires c κs =
-    let st = c .before .before .before .before .before .before .before .before .before .before .before .before .before .before .before .before in
+    let st = c .before .before .before .before .before .before .before .before .before .before .before .before .before .before .before .before .before in
     let a = st .args in
-    let h = c .before .before .before .before .before .before .before .before .before .before .before .loop in
-    let inside = c .before .before .before .before .before .before .before .before .before .before .loop-test .taken in
-    let first = c .before .before .before .before .before .before .before .before .before .before .before .before .before .leaving in
-    let empty = c .before .before .before .before .before .before .before .before .before .before .before .before .empty-slot in
-    let w = c .before .before .before .before .window-at in
-    let event = c .before .before .before .before .before .if2 .left in
-    let some = c .before .before .before .before .before .before .before .before .if1 .left in
-    let kind = ap (λ (x : Record). x .kind) (c .before .before .before .before .before .before .before .unpack .ensures) in
+    let h = c .before .before .before .before .before .before .before .before .before .before .before .before .loop in
+    let inside = c .before .before .before .before .before .before .before .before .before .before .before .loop-test .taken in
+    let first = c .before .before .before .before .before .before .before .before .before .before .before .before .before .before .leaving in
+    let empty = c .before .before .before .before .before .before .before .before .before .before .before .before .before .empty-slot in
+    let w = c .before .before .before .before .before .window-at in
+    let event = c .before .before .before .before .before .before .if2 .left in
+    let some = c .before .before .before .before .before .before .before .before .before .if1 .left in
+    let kind = ap (λ (x : Record). x .kind) (c .before .before .before .before .before .before .before .before .unpack .ensures) in
     let is = first-read (a .plan .now) (a .block .now) (a .n) (a .c) (st .pre .0 .variables) (a .cans .now) (st .pre .1) (h .i) inside (first .result) (first .ensures) in
     let at = start-branching (a .plan .now) (a .block .now) (a .n) (a .c) (a .duration) (a .most) (h .i) (st .pre .0) inside (bitAnd (getD (a .cans .now) (h .i) 0) (first .result)) is (sym kind ∙ event) (empty .result) (empty .ensures .0)
     (record {
@@ -150,16 +150,16 @@ loop-less-3 c = search needs
 
 loop-again-3 : tie.Need-loop-again-3 Inv-loop μ-loop
 loop-again-3 c =
-    let st = c .before .before .before .before .before .before .before .before .before .before .before .before .before .before .before .before .before .before in
+    let st = c .before .before .before .before .before .before .before .before .before .before .before .before .before .before .before .before .before .before .before in
     let a = st .args in
-    let h = c .before .before .before .before .before .before .before .before .before .before .before .before .before .loop in
-    let inside = c .before .before .before .before .before .before .before .before .before .before .before .before .loop-test .taken in
-    let first = c .before .before .before .before .before .before .before .before .before .before .before .before .before .before .before .leaving in
-    let empty = c .before .before .before .before .before .before .before .before .before .before .before .before .before .before .empty-slot in
-    let w = c .before .before .before .before .before .before .window-at in
-    let event = c .before .before .before .before .before .before .before .if2 .left in
-    let some = c .before .before .before .before .before .before .before .before .before .before .if1 .left in
-    let kind = ap (λ (x : Record). x .kind) (c .before .before .before .before .before .before .before .before .before .unpack .ensures) in
+    let h = c .before .before .before .before .before .before .before .before .before .before .before .before .before .before .loop in
+    let inside = c .before .before .before .before .before .before .before .before .before .before .before .before .before .loop-test .taken in
+    let first = c .before .before .before .before .before .before .before .before .before .before .before .before .before .before .before .before .leaving in
+    let empty = c .before .before .before .before .before .before .before .before .before .before .before .before .before .before .before .empty-slot in
+    let w = c .before .before .before .before .before .before .before .window-at in
+    let event = c .before .before .before .before .before .before .before .before .if2 .left in
+    let some = c .before .before .before .before .before .before .before .before .before .before .before .if1 .left in
+    let kind = ap (λ (x : Record). x .kind) (c .before .before .before .before .before .before .before .before .before .before .unpack .ensures) in
     let is = first-read (a .plan .now) (a .block .now) (a .n) (a .c) (st .pre .0 .variables) (a .cans .now) (st .pre .1) (h .i) inside (first .result) (first .ensures) in
     let begun = c .before .before .before .before .before .begun in
     let now = sinkOf (h .result) (h .counts) in
@@ -167,6 +167,7 @@ loop-again-3 c =
     let left = left-begun (a .plan .now) (a .block .now) (a .n) (a .c) (a .duration) (a .most) (sinkOf (a .result .now) noneYet) (h .i) now (h .inv .3) then refl
     (ap (λ (x : Counts). x .used) (begun .ensures)) (ap (λ (x : Counts). x .readings) (begun .ensures)) (ap (λ (x : Counts). x .least) (begun .ensures)) in
     let zero = ap (λ (x : Counts). x .steps) (begun .ensures) in
+    let few = c .before .before .before .before .before .before .first-steps .ensures in
     let done = started-settled (a .plan .now) (a .block .now) (a .n) (a .c) (a .duration) (a .most) (h .i) (st .pre .0) inside (bitAnd (getD (a .cans .now) (h .i) 0) (first .result)) is (sym kind ∙ event) (empty .result) (empty .ensures .0)
     (record {
       n = a .n;
@@ -191,16 +192,16 @@ loop-again-3 c =
 
 branch-requires : tie.Need-branch-requires Inv-loop μ-loop
 branch-requires c κs =
-    let st = c .before .before .before .before .before .before .before .before .before .before .before .before .before .before .before .before in
+    let st = c .before .before .before .before .before .before .before .before .before .before .before .before .before .before .before .before .before in
     let a = st .args in
-    let h = c .before .before .before .before .before .before .before .before .before .before .before .loop in
-    let inside = c .before .before .before .before .before .before .before .before .before .before .loop-test .taken in
-    let first = c .before .before .before .before .before .before .before .before .before .before .before .before .before .leaving in
-    let empty = c .before .before .before .before .before .before .before .before .before .before .before .before .empty-slot in
-    let w = c .before .before .before .before .window-at in
-    let event = c .before .before .before .before .before .if2 .left in
-    let some = c .before .before .before .before .before .before .before .before .if1 .left in
-    let kind = ap (λ (x : Record). x .kind) (c .before .before .before .before .before .before .before .unpack .ensures) in
+    let h = c .before .before .before .before .before .before .before .before .before .before .before .before .loop in
+    let inside = c .before .before .before .before .before .before .before .before .before .before .before .loop-test .taken in
+    let first = c .before .before .before .before .before .before .before .before .before .before .before .before .before .before .leaving in
+    let empty = c .before .before .before .before .before .before .before .before .before .before .before .before .before .empty-slot in
+    let w = c .before .before .before .before .before .window-at in
+    let event = c .before .before .before .before .before .before .if2 .left in
+    let some = c .before .before .before .before .before .before .before .before .before .if1 .left in
+    let kind = ap (λ (x : Record). x .kind) (c .before .before .before .before .before .before .before .before .unpack .ensures) in
     let is = first-read (a .plan .now) (a .block .now) (a .n) (a .c) (st .pre .0 .variables) (a .cans .now) (st .pre .1) (h .i) inside (first .result) (first .ensures) in (
       start-branching (a .plan .now) (a .block .now) (a .n) (a .c) (a .duration) (a .most) (h .i) (st .pre .0) inside (bitAnd (getD (a .cans .now) (h .i) 0) (first .result)) is (sym kind ∙ event) (empty .result) (empty .ensures .0)
           (record {
@@ -218,37 +219,39 @@ branch-requires c κs =
     )
 
 same-length : tie.Need-same-length Inv-loop μ-loop
-same-length c = c .before .before .before .before .branch .kept .1 .1 .1 .1 .1 .1 .1 .0 ∙ c .before .before .before .before .before .before .before .before .before .before .before .before .before .before .before .before .loop .inv .2
+same-length c = c .before .before .before .before .branch .kept .1 .1 .1 .1 .1 .1 .1 .0 ∙ c .before .before .before .before .before .before .before .before .before .before .before .before .before .before .before .before .before .loop .inv .2
 
 returns : tie.Need-returns Inv-loop μ-loop
 returns c =
     let call = c .before .before .before .before .branch in
     let begun = c .before .before .before .before .before .before .before .before .begun in
     let none = ap (λ (x : Counts). x .steps) (begun .ensures) in
+    let few = c .before .before .before .before .before .before .before .before .before .first-steps .ensures in
+    let least = c .before .before .before .before .before .before .before .before .before .before .before .before .before .before .before .before .before .before .before .before .before .before .pre .3 in
     let many = c .if5 .taken in
     record {
-      bounded = λ small. let few = call .ensures .led .bounded (omega arith) in absurd (omega arith);
+      bounded = λ small. let end = call .ensures .led .bounded (omega arith) in absurd (omega arith);
       found = λ few p o d. absurd (omega arith);
     }
 
 add-i-4 : tie.Need-add-i-4 Inv-loop μ-loop
-add-i-4 c = search needs
+add-i-4 c = omega (arith, c .before .before .before .before .before .before .before .before .before .before .before .before .before .before .before .before .loop-test .taken, c .before .before .before .before .before .before .before .before .before .before .before .before .before .before .before .before .before .before .before .before .before .before .pre .0 .records)
 
 loop-less-4 : tie.Need-loop-less-4 Inv-loop μ-loop
 loop-less-4 c = search needs
 
 loop-again-4 : tie.Need-loop-again-4 Inv-loop μ-loop
 loop-again-4 c =
-    let st = c .before .before .before .before .before .before .before .before .before .before .before .before .before .before .before .before .before .before .before .before .before in
+    let st = c .before .before .before .before .before .before .before .before .before .before .before .before .before .before .before .before .before .before .before .before .before .before in
     let a = st .args in
-    let h = c .before .before .before .before .before .before .before .before .before .before .before .before .before .before .before .before .loop in
-    let inside = c .before .before .before .before .before .before .before .before .before .before .before .before .before .before .before .loop-test .taken in
-    let first = c .before .before .before .before .before .before .before .before .before .before .before .before .before .before .before .before .before .before .leaving in
-    let empty = c .before .before .before .before .before .before .before .before .before .before .before .before .before .before .before .before .before .empty-slot in
-    let w = c .before .before .before .before .before .before .before .before .before .window-at in
-    let event = c .before .before .before .before .before .before .before .before .before .before .if2 .left in
-    let some = c .before .before .before .before .before .before .before .before .before .before .before .before .before .if1 .left in
-    let kind = ap (λ (x : Record). x .kind) (c .before .before .before .before .before .before .before .before .before .before .before .before .unpack .ensures) in
+    let h = c .before .before .before .before .before .before .before .before .before .before .before .before .before .before .before .before .before .loop in
+    let inside = c .before .before .before .before .before .before .before .before .before .before .before .before .before .before .before .before .loop-test .taken in
+    let first = c .before .before .before .before .before .before .before .before .before .before .before .before .before .before .before .before .before .before .before .leaving in
+    let empty = c .before .before .before .before .before .before .before .before .before .before .before .before .before .before .before .before .before .before .empty-slot in
+    let w = c .before .before .before .before .before .before .before .before .before .before .window-at in
+    let event = c .before .before .before .before .before .before .before .before .before .before .before .if2 .left in
+    let some = c .before .before .before .before .before .before .before .before .before .before .before .before .before .before .if1 .left in
+    let kind = ap (λ (x : Record). x .kind) (c .before .before .before .before .before .before .before .before .before .before .before .before .before .unpack .ensures) in
     let is = first-read (a .plan .now) (a .block .now) (a .n) (a .c) (st .pre .0 .variables) (a .cans .now) (st .pre .1) (h .i) inside (first .result) (first .ensures) in
     let begun = c .before .before .before .before .before .before .before .before .begun in
     let now = sinkOf (h .result) (h .counts) in
@@ -256,8 +259,9 @@ loop-again-4 c =
     let left = left-begun (a .plan .now) (a .block .now) (a .n) (a .c) (a .duration) (a .most) (sinkOf (a .result .now) noneYet) (h .i) now (h .inv .3) then refl
     (ap (λ (x : Counts). x .used) (begun .ensures)) (ap (λ (x : Counts). x .readings) (begun .ensures)) (ap (λ (x : Counts). x .least) (begun .ensures)) in
     let zero = ap (λ (x : Counts). x .steps) (begun .ensures) in
+    let few = c .before .before .before .before .before .before .before .before .before .first-steps .ensures in
     let call = c .before .before .before .before .branch in
-    let few : call .result .steps < giveUp = omega (arith, c .if5 .left) in
+    let ended : call .result .steps < giveUp = omega (arith, c .if5 .left) in
     let after = sinkOf (call .last .1 .1 .1 .1 .1 .1 .1 .0) (call .result) in
     let done = started-branch (a .plan .now) (a .block .now) (a .n) (a .c) (a .duration) (a .most) (h .i) (st .pre .0) inside (bitAnd (getD (a .cans .now) (h .i) 0) (first .result)) is (sym kind ∙ event) (empty .result) (empty .ensures .0)
     (record {
@@ -271,12 +275,12 @@ loop-again-4 c =
       limit = a .limit;
     })
     (w .result) (w .ensures) refl (empty .ensures .1) (empty .ensures .2) some (st .pre .2)
-    then after few (call .ensures) in (
+    then after ended (call .ensures) in (
       search needs,
       refl,
       call .kept .1 .1 .1 .1 .1 .1 .1 .0 ∙ h .inv .2,
       left-more (a .plan .now) (a .block .now) (a .n) (a .c) (a .duration) (a .most) (sinkOf (a .result .now) noneYet) (h .i) then left inside after done,
-      few,
+      ended,
       w .ensures .block,
       open-later (a .block .now) (a .duration) (h .i) (w .result .until) (st .pre .0 .rising) (w .ensures .block) (w .ensures .opened),
     )
@@ -311,8 +315,8 @@ each-start-spec =
     loop-less-2
     loop-again-2
     window-at-requires
+    first-steps-requires
     begun-requires
-    is-early-requires
     slice-aggregate-is-settled
     is-settled-requires
     add-i-3

@@ -55,7 +55,7 @@ each-start-requires c κs =
     let st = c .before .before .before .before .before .before .before .before in
     let a = st .args in
     let plan = c .before .before .before .before .before .plan-of in
-    (usable (a .p) (a .block .now) (plan .result) (st .pre .0) (st .pre .1) (plan .ensures), c .before .before .before .all-can .ensures, no-floor (plan .result) (a .block .now) (a .p .n) (a .p .c) (a .p .duration))
+    (usable (a .p) (a .block .now) (plan .result) (st .pre .0) (st .pre .1) (plan .ensures), c .before .before .before .all-can .ensures, no-floor (plan .result) (a .block .now) (a .p .n) (a .p .c) (a .p .duration), omega arith)
 
 same-length : tie.Need-same-length
 same-length c = search needs
