@@ -96,7 +96,8 @@ fn firing_of(
     firing
 }
 
-// Skips to the next record from j on that fires; to the record at which the reading closes, where none does.
+// Skips to the next record from j on that fires; to the record at which the reading closes, where none does, and at once
+// where no variable leaves the reading's state.
 pub fn next_fire(
     block: &[u8],
     plan: &[u64; firing::PLAN_ROOM],
@@ -110,6 +111,12 @@ pub fn next_fire(
     ensures { λ f. ⌜ NextBy (now (plan .entry)) (now (block .entry)) s (now (slot .entry)) j f ⌝ }
 {
     let leave = leaving(plan, s.n, slots::state_of(slot));
+    if leave == 0 {
+        return Fire {
+            at: s.until,
+            variables: 0,
+        };
+    }
     let mut i = j;
     while i < s.until {
         let asked = cans[i] as u64 & leave;

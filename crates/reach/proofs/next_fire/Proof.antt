@@ -4,6 +4,8 @@ use native.Mathlib.Nat.{eq-or-lt-of-le}
 use mathlib.Core.Path.{_≡_, sym, ap, _∙_}
 use mathlib.Core.Logic.{⊎-elim}
 use Prim.Native.Nat.{ℕ, _+_, _-_, _≤_, _<_}
+use lib.Bits.{and-le-r}
+use lib.ListN.{getD}
 use Rattle.slots.specs.Slots.{heldIn}
 use Rattle.reach.specs.Readings.{firingBy, leavingBy}
 use Rattle.reach.proofs.Readings.{fit}
@@ -34,38 +36,58 @@ state-of-requires c κs = let size = c .before .before .pre .0 .reads .size in o
 leaving-requires : tie.Need-leaving-requires Inv-loop μ-loop
 leaving-requires c κs = let usable = c .before .before .before .pre .0 .usable in (usable .sound .size, usable .variables)
 
+returns : tie.Need-returns Inv-loop μ-loop
+unfolding heldIn
+returns c =
+    let st = c .before .before .before .before .before in
+    let a = st .args in
+    let ready = st .pre .0 in
+    let end = ready .block in
+    let leave = c .before .leaving in
+    let is : leave .result ≡ leavingBy (a .plan .now) (a .s .n) (heldIn (a .slot .now) .state) =
+    leave .ensures ∙ ap (leavingBy (a .plan .now) (a .s .n)) (c .before .before .state-of .ensures) in
+    record {
+      from = ready .within;
+      upTo = omega arith;
+      passed = λ k x y.
+          let less = and-le-r (getD (a .cans .now) k 0) (leave .result) in
+          none-read (a .plan .now) (a .block .now) (a .s .n) (a .s .c) (ready .usable .variables) (a .cans .now) (st .pre .1) k (omega arith) (heldIn (a .slot .now)) (leave .result) is (omega (arith, less, c .if1 .taken));
+      here = λ l. absurd (omega arith);
+      some = λ l. absurd (omega arith);
+    }
+
 loop-holds : tie.Need-loop-holds Inv-loop μ-loop
 unfolding heldIn
 loop-holds c =
-    let st = c .before .before .before .before in
+    let st = c .before .before .before .before .before in
     let a = st .args in (
       search needs,
       st .pre .0 .within,
-      c .leaving .ensures ∙ ap (leavingBy (a .plan .now) (a .s .n)) (c .before .state-of .ensures),
+      c .before .leaving .ensures ∙ ap (leavingBy (a .plan .now) (a .s .n)) (c .before .before .state-of .ensures),
       λ k x y. absurd (omega arith),
     )
 
 mul-asked : tie.Need-mul-asked Inv-loop μ-loop
 mul-asked c =
-    let ready = c .before .before .before .before .before .before .before .pre .0 in
+    let ready = c .before .before .before .before .before .before .before .before .pre .0 in
     let end = ready .block in
     let records = ready .usable .records in
-    omega (arith, c .if1 .taken)
+    omega (arith, c .if2 .taken)
 
 element-copy-out-asked : tie.Need-element-copy-out-asked Inv-loop μ-loop
 element-copy-out-asked c =
-    let ready = c .before .before .before .before .before .before .before .pre .0 in
+    let ready = c .before .before .before .before .before .before .before .before .pre .0 in
     let end = ready .block in
     let records = ready .usable .records in
-    omega (arith, c .if1 .taken)
+    omega (arith, c .if2 .taken)
 
 cast-asked : tie.Need-cast-asked Inv-loop μ-loop
 cast-asked c =
-    let st = c .before .before .before .before .before .before .before .before in
+    let st = c .before .before .before .before .before .before .before .before .before in
     let a = st .args in
     let ready = st .pre .0 in
     let end = ready .block in
-    let here = c .before .if1 .taken in
+    let here = c .before .if2 .taken in
     let small = read-bound (a .plan .now) (a .block .now) (a .s .n) (a .s .c) (ready .usable .variables) (a .cans .now) (st .pre .1) (c .before .before .before .loop .i) (omega arith) in
     omega arith
 
@@ -77,43 +99,43 @@ loop-less c = search needs
 
 loop-again : tie.Need-loop-again Inv-loop μ-loop
 loop-again c =
-    let st = c .before .before .before .before .before .before .before .before .before in
+    let st = c .before .before .before .before .before .before .before .before .before .before in
     let a = st .args in
     let ready = st .pre .0 in
     let h = c .before .before .before .before .loop in
     let end = ready .block in
-    let here = c .before .before .if1 .taken in
-    let none = none-read (a .plan .now) (a .block .now) (a .s .n) (a .s .c) (ready .usable .variables) (a .cans .now) (st .pre .1) (h .i) (omega arith) (heldIn (a .slot .now)) (c .before .before .before .before .before .leaving .result) (h .inv .2) (c .if2 .taken) in
+    let here = c .before .before .if2 .taken in
+    let none = none-read (a .plan .now) (a .block .now) (a .s .n) (a .s .c) (ready .usable .variables) (a .cans .now) (st .pre .1) (h .i) (omega arith) (heldIn (a .slot .now)) (c .before .before .before .before .before .before .leaving .result) (h .inv .2) (c .if3 .taken) in
     (search needs, search needs, h .inv .2, passed-more (λ k. firingBy (a .plan .now) (a .block .now) (a .s .n) (a .s .c) k (heldIn (a .slot .now))) (a .j) (h .i) none (h .inv .3))
 
 firing-of-requires : tie.Need-firing-of-requires Inv-loop μ-loop
 firing-of-requires c κs =
-    let st = c .before .before .before .before .before .before .before .before .before in
+    let st = c .before .before .before .before .before .before .before .before .before .before in
     let a = st .args in
     let ready = st .pre .0 in
     let h = c .before .before .before .before .loop in
     let end = ready .block in
-    let here = c .before .before .if1 .taken in (
-      allowed-read (a .plan .now) (a .block .now) (a .s .n) (a .s .c) (ready .usable .variables) (a .cans .now) (st .pre .1) (h .i) (omega arith) (c .before .before .before .before .before .leaving .result),
+    let here = c .before .before .if2 .taken in (
+      allowed-read (a .plan .now) (a .block .now) (a .s .n) (a .s .c) (ready .usable .variables) (a .cans .now) (st .pre .1) (h .i) (omega arith) (c .before .before .before .before .before .before .leaving .result),
       fit (a .plan .now) (a .block .now) (a .s .n) (a .s .c) (a .j) (a .slot .now) (ready .usable) (ready .reads) (h .i) (h .inv .0) (omega arith),
     )
 
-returns : tie.Need-returns Inv-loop μ-loop
-returns c =
-    let st = c .before .before .before .before .before .before .before .before .before .before .before in
+returns-2 : tie.Need-returns-2 Inv-loop μ-loop
+returns-2 c =
+    let st = c .before .before .before .before .before .before .before .before .before .before .before .before in
     let a = st .args in
     let ready = st .pre .0 in
     let h = c .before .before .before .before .before .before .loop in
     let end = ready .block in
-    let here = c .before .before .before .before .if1 .taken in
+    let here = c .before .before .before .before .if2 .taken in
     record {
       from = h .inv .0;
       upTo = h .inv .1;
       passed = h .inv .3;
       here = λ l.
           c .before .firing-of .ensures
-          ∙ firing-read (a .plan .now) (a .block .now) (a .s .n) (a .s .c) (ready .usable .variables) (a .cans .now) (st .pre .1) (h .i) (omega arith) (heldIn (a .slot .now)) (c .before .before .before .before .before .before .before .leaving .result) (h .inv .2);
-      some = λ l. omega (arith, c .if3 .taken);
+          ∙ firing-read (a .plan .now) (a .block .now) (a .s .n) (a .s .c) (ready .usable .variables) (a .cans .now) (st .pre .1) (h .i) (omega arith) (heldIn (a .slot .now)) (c .before .before .before .before .before .before .before .before .leaving .result) (h .inv .2);
+      some = λ l. omega (arith, c .if4 .taken);
     }
 
 add-i-2 : tie.Need-add-i-2 Inv-loop μ-loop
@@ -124,25 +146,25 @@ loop-less-2 c = search needs
 
 loop-again-2 : tie.Need-loop-again-2 Inv-loop μ-loop
 loop-again-2 c =
-    let st = c .before .before .before .before .before .before .before .before .before .before .before in
+    let st = c .before .before .before .before .before .before .before .before .before .before .before .before in
     let a = st .args in
     let ready = st .pre .0 in
     let h = c .before .before .before .before .before .before .loop in
     let end = ready .block in
-    let here = c .before .before .before .before .if1 .taken in
-    let read = firing-read (a .plan .now) (a .block .now) (a .s .n) (a .s .c) (ready .usable .variables) (a .cans .now) (st .pre .1) (h .i) (omega arith) (heldIn (a .slot .now)) (c .before .before .before .before .before .before .before .leaving .result) (h .inv .2) in
-    let none = sym read ∙ sym (c .before .firing-of .ensures) ∙ c .if3 .left in
+    let here = c .before .before .before .before .if2 .taken in
+    let read = firing-read (a .plan .now) (a .block .now) (a .s .n) (a .s .c) (ready .usable .variables) (a .cans .now) (st .pre .1) (h .i) (omega arith) (heldIn (a .slot .now)) (c .before .before .before .before .before .before .before .before .leaving .result) (h .inv .2) in
+    let none = sym read ∙ sym (c .before .firing-of .ensures) ∙ c .if4 .left in
     (search needs, search needs, h .inv .2, passed-more (λ k. firingBy (a .plan .now) (a .block .now) (a .s .n) (a .s .c) k (heldIn (a .slot .now))) (a .j) (h .i) none (h .inv .3))
 
-returns-2 : tie.Need-returns-2 Inv-loop μ-loop
-returns-2 c =
+returns-3 : tie.Need-returns-3 Inv-loop μ-loop
+returns-3 c =
     let h = c .before .before .loop in
     record {
       from = h .inv .0;
       upTo = h .inv .1;
       passed = h .inv .3;
-      here = λ l. absurd (omega (arith, c .if1 .left));
-      some = λ l. absurd (omega (arith, c .if1 .left));
+      here = λ l. absurd (omega (arith, c .if2 .left));
+      some = λ l. absurd (omega (arith, c .if2 .left));
     }
 
 pub next-fire-spec : {M : Type 1} → statement M
@@ -153,6 +175,7 @@ next-fire-spec =
     μ-loop
     state-of-requires
     leaving-requires
+    returns
     loop-holds
     mul-asked
     element-copy-out-asked
@@ -161,8 +184,8 @@ next-fire-spec =
     loop-less
     loop-again
     firing-of-requires
-    returns
+    returns-2
     add-i-2
     loop-less-2
     loop-again-2
-    returns-2)
+    returns-3)
