@@ -1,0 +1,120 @@
+// One sweep over the block: the first record at which a reading could take a binding too many.
+ghost use mathlib.Core.Path.{_≡_};
+ghost use Prim.Native.Nat.{ℕ, _^_, _<_, _≤_};
+ghost use lib.ListN.{length, getD, replicate};
+ghost use Rattle.patterns.specs.Patterns.{mostVariables};
+ghost use Rattle.firing.specs.Plan.{planRoom};
+ghost use Rattle.sweep.specs.States.{mostStates, mostLinks, Put, Linked, Listed};
+
+// How many states are listed at most: as many as two sets of six variables have, and more than there are of any other
+// pattern.
+const MOST_STATES: usize = 128;
+
+const MOST_LINKS: usize = MOST_STATES * patterns::MOST_VARIABLES;
+
+// ## The states
+
+fn no_states() -> [u64; MOST_STATES]
+    ensures { λ r. ⌜ r ≡ replicate mostStates 0 ⌝ }
+{
+    [0; MOST_STATES]
+}
+
+fn no_links() -> [u8; MOST_LINKS]
+    ensures { λ r. ⌜ r ≡ replicate mostLinks 0 ⌝ }
+{
+    [0; MOST_LINKS]
+}
+
+// The place of a state among the first of the list; the place behind them where it is not there.
+fn find(states: &[u64; MOST_STATES], count: usize, state: u64) -> usize
+    requires { ⌜ (length (now states) ≡ mostStates) × (count ≤ mostStates) ⌝ }
+    ensures { λ at. ⌜ (at ≤ count) × (at < count → getD (now (states .entry)) at 0 ≡ state) ⌝ }
+{
+    let mut at = 0;
+    while at < count {
+        if states[at] == state {
+            return at;
+        }
+        at += 1;
+    }
+    at
+}
+
+// The same, with the state written there where there is room.
+fn put(states: &mut [u64; MOST_STATES], count: usize, state: u64) -> usize
+    requires { ⌜ (length (now states) ≡ mostStates) × (count ≤ mostStates) ⌝ }
+    ensures { λ at. ⌜ Put (now (states .entry)) count state (now (states .exit)) at ⌝ }
+{
+    let at = find(states, count, state);
+    if at == MOST_STATES {
+        return at;
+    }
+    states[at] = state;
+    at
+}
+
+// The larger of two.
+fn larger(a: usize, b: usize) -> usize
+    ensures { λ r. ⌜ (a ≤ r) × (b ≤ r) × ((m : ℕ) → a ≤ m → b ≤ m → r ≤ m) ⌝ }
+{
+    if a < b { b } else { a }
+}
+
+// Links the state at a place by each variable that leaves it, and lists the states that they lead to. Gives the number
+// of states then; where there is no room for them, more than there can be.
+fn link(
+    states: &mut [u64; MOST_STATES],
+    links: &mut [u8; MOST_LINKS],
+    count: usize,
+    at: usize,
+    leave: u64,
+) -> usize
+    requires { ⌜ (length (now states) ≡ mostStates) × (length (now links) ≡ mostLinks) × (at < count)
+        × (count ≤ mostStates) × (leave < 2 ^ mostVariables) ⌝ }
+    ensures { λ more. ⌜ (more ≤ mostStates
+        → Linked (now (states .entry)) (now (links .entry)) count at leave (now (states .exit)) (now (links .exit)) more) ⌝ }
+{
+    let from = states[at];
+    let mut more = count;
+    let mut rest = leave;
+    while rest != 0 {
+        let v = numbers::lowest_bit(rest);
+        rest = numbers::without_bit(rest, v);
+        let to = put(states, more, numbers::with_bit(from, v));
+        if to == MOST_STATES {
+            return MOST_STATES + 1;
+        }
+        links[at * patterns::MOST_VARIABLES + v] = to as u8;
+        more = larger(more, to + 1);
+    }
+    more
+}
+
+// Lists the states that can be reached, from a list whose first is that of no bindings. Gives their number; where there
+// is no room for them, more than there can be.
+fn list_states(
+    plan: &[u64; firing::PLAN_ROOM],
+    n: usize,
+    states: &mut [u64; MOST_STATES],
+    leaves: &mut [u64; MOST_STATES],
+    links: &mut [u8; MOST_LINKS],
+) -> usize
+    requires { ⌜ (length (now plan) ≡ planRoom) × (n ≤ mostVariables) × (now states ≡ replicate mostStates 0)
+        × (now leaves ≡ replicate mostStates 0) × (now links ≡ replicate mostLinks 0) ⌝ }
+    ensures { λ count. ⌜ (count ≤ mostStates
+        → Listed (now (plan .entry)) n (now (states .exit)) (now (leaves .exit)) (now (links .exit)) count count) ⌝ }
+{
+    let mut count = 1;
+    let mut at = 0;
+    while at < count {
+        let leave = reach::leaving(plan, n, states[at]);
+        leaves[at] = leave;
+        count = link(states, links, count, at, leave);
+        if MOST_STATES < count {
+            return count;
+        }
+        at += 1;
+    }
+    count
+}
