@@ -1,16 +1,21 @@
 // One sweep over the block: the first record at which a reading could take a binding too many.
 ghost use mathlib.Core.Path.{_≡_};
-ghost use Prim.Native.Nat.{ℕ, _^_, _<_, _≤_};
+ghost use mathlib.Core.Bool.{true};
+ghost use Prim.Native.Nat.{ℕ, _+_, _^_, _<_, _≤_};
 ghost use lib.ListN.{length, getD, replicate};
+ghost use Rattle.numbers.specs.Bits.{bit};
 ghost use Rattle.patterns.specs.Patterns.{mostVariables};
 ghost use Rattle.firing.specs.Plan.{planRoom};
-ghost use Rattle.sweep.specs.States.{mostStates, mostLinks, Put, Linked, Listed};
+ghost use Rattle.sweep.specs.States.{mostStates, linkAt, mostLinks, Put, Linked, Listed};
+ghost use Rattle.sweep.specs.Starts.{mostPlaces, Raised, Spread};
 
 // How many states are listed at most: as many as two sets of six variables have, and more than there are of any other
 // pattern.
 const MOST_STATES: usize = 128;
 
 const MOST_LINKS: usize = MOST_STATES * patterns::MOST_VARIABLES;
+
+const MOST_PLACES: usize = (slots::MOST_BINDINGS + 1) * MOST_STATES;
 
 // ## The states
 
@@ -117,4 +122,40 @@ fn list_states(
         at += 1;
     }
     count
+}
+
+// ## The latest starts
+
+// One more than the start, where that is more than what stands there.
+fn raise(starts: &mut [u16; MOST_PLACES], at: usize, start: u16)
+    requires { ⌜ (length (now starts) ≡ mostPlaces) × (at < mostPlaces) ⌝ }
+    ensures { λ r. ⌜ Raised (now (starts .entry)) at start (now (starts .exit)) ⌝ }
+{
+    if start <= starts[at] {
+        return;
+    }
+    starts[at] = start;
+}
+
+// The start for each state that the variables lead to, in the row that begins at a place.
+fn spread(
+    starts: &mut [u16; MOST_PLACES],
+    links: &[u8; MOST_LINKS],
+    row: usize,
+    at: usize,
+    firing: u64,
+    start: u16,
+)
+    requires { ⌜ (length (now starts) ≡ mostPlaces) × (length (now links) ≡ mostLinks) × (row + mostStates ≤ mostPlaces)
+        × (at < mostStates) × (firing < 2 ^ mostVariables)
+        × ((v : ℕ) → bit firing v ≡ true → getD (now links) (linkAt at v) 0 < mostStates) ⌝ }
+    ensures { λ r. ⌜ Spread (now (starts .entry)) (now (links .entry)) row at firing start (now (starts .exit)) ⌝ }
+{
+    let mut rest = firing;
+    while rest != 0 {
+        let v = numbers::lowest_bit(rest);
+        rest = numbers::without_bit(rest, v);
+        let to = links[at * patterns::MOST_VARIABLES + v] as usize;
+        raise(starts, row + to, start);
+    }
 }
