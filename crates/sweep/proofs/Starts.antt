@@ -14,9 +14,9 @@ use borrow.Author.Tests.{eqb-true, eqb-false}
 use Rattle.numbers.specs.Numbers.{oneIf}
 use Rattle.numbers.specs.Bits.{bit, IsLowestBit}
 use Rattle.numbers.proofs.Cases.{by-test, by-order}
-use Rattle.numbers.proofs.Bits.{bit-zero, bit-without}
+use Rattle.numbers.proofs.Bits.{bit-zero, bit-and, bit-without}
 use Rattle.patterns.specs.Patterns.{mostVariables}
-use Rattle.automaton.proofs.Membership.{clash}
+use Rattle.automaton.proofs.Membership.{both, clash}
 use Rattle.rule.specs.Promises.{mostBindings}
 use Rattle.reach.proofs.MaskInTurn.{low-bits, rest-known}
 use Rattle.sweep.specs.States.{mostStates, linkAt}
@@ -271,3 +271,19 @@ module _ (old leaves links : List ℕ) (count can low : ℕ) where
             let h = subst (λ (x : ℕ). getD mid (placeOf x at) 0 ≤ getD new (placeOf (suc x) 0 + getD links (linkAt at v) 0) 0) z (spread .here at v known late' fires) in
             omega arith);
       }
+
+-- ## The last row
+
+pub and-right : (a b v : ℕ) → bit (bitAnd a b) v ≡ true → bit b v ≡ true
+and-right a b v t = both {a = bit a v} (sym (bit-and a b v) ∙ t) .1
+
+-- one state more that no variable leaves, or that is out
+pub none-more :
+    (starts leaves : List ℕ) (can low at : ℕ)
+    → ((i : ℕ) → i < at → low < getD starts (placeOf mostBindings i) 0 → bitAnd can (getD leaves i 0) ≡ 0)
+    → (low < getD starts (placeOf mostBindings at) 0 → bitAnd can (getD leaves at 0) ≡ 0)
+    → (i : ℕ) → i < at + 1 → low < getD starts (placeOf mostBindings i) 0 → bitAnd can (getD leaves i 0) ≡ 0
+none-more starts leaves can low at before here i l =
+    by-order i at
+    (before i)
+    (λ m. let z : at ≡ i = omega arith in subst (λ (x : ℕ). low < getD starts (placeOf mostBindings x) 0 → bitAnd can (getD leaves x 0) ≡ 0) z here)

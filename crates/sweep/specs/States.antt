@@ -53,3 +53,10 @@ pub record Listed (plan : List ℕ) (n : ℕ) (states leaves links : List ℕ) (
   pub first : getD states 0 0 ≡ 0
   pub leaving : (i : ℕ) → i < at → getD leaves i 0 ≡ leavingBy plan n (getD states i 0)
   pub leads : (i v : ℕ) → i < at → bit (getD leaves i 0) v ≡ true → Leads states links count i v
+
+-- what a state leads to is in the list
+pub record Inside (leaves links : List ℕ) (count : ℕ) : Type 0 where
+  pub wide : length leaves ≡ mostStates
+  pub room : length links ≡ mostLinks
+  pub few : count ≤ mostStates
+  pub known : (i v : ℕ) → i < count → bit (getD leaves i 0) v ≡ true → getD links (linkAt i v) 0 < mostStates

@@ -5,9 +5,10 @@ ghost use Prim.Native.Nat.{ℕ, _+_, _^_, _<_, _≤_};
 ghost use lib.ListN.{length, getD, replicate};
 ghost use Rattle.numbers.specs.Bits.{bit};
 ghost use Rattle.patterns.specs.Patterns.{mostVariables};
+ghost use Rattle.rule.specs.Promises.{mostBindings};
 ghost use Rattle.firing.specs.Plan.{planRoom};
-ghost use Rattle.sweep.specs.States.{mostStates, linkAt, mostLinks, Put, Linked, Listed};
-ghost use Rattle.sweep.specs.Starts.{mostPlaces, Raised, Spread};
+ghost use Rattle.sweep.specs.States.{mostStates, linkAt, mostLinks, Put, Linked, Listed, Inside};
+ghost use Rattle.sweep.specs.Starts.{mostPlaces, Raised, Spread, RowSpread, IsOver, Advanced};
 
 // How many states are listed at most: as many as two sets of six variables have, and more than there are of any other
 // pattern.
@@ -157,5 +158,86 @@ fn spread(
         rest = numbers::without_bit(rest, v);
         let to = links[at * patterns::MOST_VARIABLES + v] as usize;
         raise(starts, row + to, start);
+    }
+}
+
+fn wide(x: u16) -> usize
+    ensures { λ r. ⌜ r ≡ x ⌝ }
+{
+    x as usize
+}
+
+// Each state of row k leads on, by the variables that can fire and leave it, to the next row. Starts up to `low` are out.
+fn spread_row(
+    starts: &mut [u16; MOST_PLACES],
+    leaves: &[u64; MOST_STATES],
+    links: &[u8; MOST_LINKS],
+    count: usize,
+    can: u64,
+    low: usize,
+    k: usize,
+)
+    requires { ⌜ (length (now starts) ≡ mostPlaces) × Inside (now leaves) (now links) count × (can < 2 ^ mostVariables)
+        × (k < mostBindings) ⌝ }
+    ensures { λ r. ⌜ RowSpread (now (starts .entry)) (now (leaves .entry)) (now (links .entry)) count can low k
+        (now (starts .exit)) count ⌝ }
+{
+    let row = k * MOST_STATES;
+    let mut at = 0;
+    while at < count {
+        let start = starts[row + at];
+        if wide(start) <= low {
+            at += 1;
+            continue;
+        }
+        spread(starts, links, row + MOST_STATES, at, can & leaves[at], start);
+        at += 1;
+    }
+}
+
+// Whether a state of the last row leads on.
+fn is_over(
+    starts: &[u16; MOST_PLACES],
+    leaves: &[u64; MOST_STATES],
+    count: usize,
+    can: u64,
+    low: usize,
+) -> bool
+    requires { ⌜ (length (now starts) ≡ mostPlaces) × (length (now leaves) ≡ mostStates) × (count ≤ mostStates) ⌝ }
+    ensures { λ r. ⌜ IsOver (now (starts .entry)) (now (leaves .entry)) count can low r ⌝ }
+{
+    let row = slots::MOST_BINDINGS * MOST_STATES;
+    let mut at = 0;
+    while at < count {
+        if wide(starts[row + at]) <= low {
+            at += 1;
+            continue;
+        }
+        if can & leaves[at] != 0 {
+            return true;
+        }
+        at += 1;
+    }
+    false
+}
+
+// Each row leads on, the last first, so that no start moves twice.
+fn advance(
+    starts: &mut [u16; MOST_PLACES],
+    leaves: &[u64; MOST_STATES],
+    links: &[u8; MOST_LINKS],
+    count: usize,
+    can: u64,
+    low: usize,
+)
+    requires { ⌜ (length (now starts) ≡ mostPlaces) × Inside (now leaves) (now links) count
+        × (can < 2 ^ mostVariables) ⌝ }
+    ensures { λ r. ⌜ Advanced (now (starts .entry)) (now (leaves .entry)) (now (links .entry)) count can low
+        (now (starts .exit)) 0 ⌝ }
+{
+    let mut k = slots::MOST_BINDINGS;
+    while 0 < k {
+        k -= 1;
+        spread_row(starts, leaves, links, count, can, low, k);
     }
 }
