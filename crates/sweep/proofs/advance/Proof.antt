@@ -1,38 +1,50 @@
+-- `sweep::advance` meets its contract. The loop's invariant: the rows from k on have led on. Assumes nothing.
+use native.Mathlib.Omega.{arith}
+use mathlib.Core.Path.{_≡_, subst, _∙_}
+use Prim.Native.Nat.{ℕ, _≤_}
+use Rattle.rule.specs.Promises.{mostBindings}
+use Rattle.sweep.specs.Starts.{Advanced}
+use Rattle.sweep.proofs.Starts.{advanced-none, advanced-more}
+use borrow.Author.Needs.{needs}
 use Rattle.sweep.proofs.advance.Statement.{statement}
 use Rattle.sweep.proofs.advance.Tie as tie
-use Rattle.sweep.proofs.advance.Reads as reads
-use Rattle.sweep.proofs.advance.Lts as lts
-use Rattle.sweep.proofs.spread_row.Reads as spread-row-reads
 
 abbrev Inv-loop : tie.InvT-loop
-Inv-loop starts₀ leaves links count can low k₀ starts k = ?
+Inv-loop starts₀ leaves links count can low k₀ starts k = (k ≤ mostBindings) × Advanced starts₀ leaves links count can low starts k
 
 abbrev μ-loop : tie.MeasureT-loop
-μ-loop starts₀ leaves links count can low k₀ starts k = ?
+μ-loop starts₀ leaves links count can low k₀ starts k = k
 
--- src/lib.rt:239:5
 loop-holds : tie.Need-loop-holds Inv-loop μ-loop
-loop-holds c = ?
+loop-holds c = let a = c .args in (omega arith, advanced-none (a .starts .now) (a .leaves .now) (a .links .now) (a .count) (a .can) (a .low))
 
--- src/lib.rt:240:9
 sub-k : tie.Need-sub-k Inv-loop μ-loop
-sub-k c = ?
+sub-k c = search needs
 
--- src/lib.rt:241:9
 spread-row-requires : tie.Need-spread-row-requires Inv-loop μ-loop
-spread-row-requires c κs = ?
+spread-row-requires c κs =
+    let h = c .before .before .loop in
+    let pre = c .before .before .before .pre in
+    let few = h .inv .0 in
+    (h .inv .1 .size ∙ pre .0, pre .1, pre .2, omega (arith, c .before .loop-test .taken))
 
--- src/lib.rt:239:5
 loop-less : tie.Need-loop-less Inv-loop μ-loop
-loop-less c = ?
+loop-less c = search needs
 
--- src/lib.rt:239:5
 loop-again : tie.Need-loop-again Inv-loop μ-loop
-loop-again c = ?
+loop-again c =
+    let h = c .before .before .before .loop in
+    let a = c .before .before .before .before .args in
+    let few = h .inv .0 in
+    let some = c .before .before .loop-test .taken in
+    (omega arith, advanced-more (a .starts .now) (a .leaves .now) (a .links .now) (a .count) (a .can) (a .low) (h .starts) (c .spread-row .last .0) _ (h .k) (omega arith) (h .inv .1) (c .spread-row .ensures))
 
--- src/lib.rt:225:1
 returns : tie.Need-returns Inv-loop μ-loop
-returns c = ?
+returns c =
+    let h = c .before .loop in
+    let a = c .before .before .args in
+    let e : h .k ≡ 0 = omega (arith, c .loop-test .left) in
+    subst (Advanced (a .starts .now) (a .leaves .now) (a .links .now) (a .count) (a .can) (a .low) (h .starts)) e (h .inv .1)
 
 pub advance-spec : {M : Type 1} → statement M
 advance-spec =
