@@ -1,2 +1,4 @@
 pub mod States
 pub mod Starts
+pub mod Windows
+pub mod Coming

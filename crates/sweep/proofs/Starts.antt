@@ -7,8 +7,7 @@ use Prim.Native.Nat.{ℕ, zero, suc, _+_, _-_, _*_, _^_, _≤_, _<_}
 use native.Mathlib.Omega.{arith}
 use lib.Bits.{bitAnd}
 use lib.Dec.{eqb}
-use lib.ListN.{length, getD, length-set}
-use lib.ListN as lists
+use lib.ListN.{length, getD, set, length-set}
 use lib.Seq.{getD-set-same, getD-set-other}
 use borrow.Author.Tests.{eqb-true, eqb-false}
 use Rattle.numbers.specs.Numbers.{oneIf}
@@ -22,7 +21,7 @@ use Rattle.reach.proofs.MaskInTurn.{low-bits, rest-known}
 use Rattle.sweep.specs.States.{mostStates, linkAt}
 use Rattle.sweep.specs.Starts.{placeOf, mostPlaces, Changed, Raised, Reaches, Spread, RowChanged, RowSpread}
 use Rattle.sweep.specs.Starts.{Advanced}
-use Rattle.sweep.specs.Starts.Changed.{same, set}
+use Rattle.sweep.specs.Starts.Changed.{same, put}
 use Rattle.sweep.specs.Starts.RowChanged.{stays, moved}
 
 -- ## One place
@@ -33,24 +32,24 @@ raised-not old at start l =
 
 pub raised-set :
     (old : List ℕ) (at start : ℕ) → at < length old → getD old at 0 < start
-    → Raised old at start (lists.set old at start)
+    → Raised old at start (set old at start)
 raised-set old at start l less =
     let new = getD-set-same old at start 0 l in
     record {
       size = length-set old at start;
       above = λ place. by-test (eqb at place)
           (λ e.
-          subst (λ (x : ℕ). getD old x 0 ≤ getD (lists.set old at start) x 0) (eqb-true at place e) (omega arith))
+          subst (λ (x : ℕ). getD old x 0 ≤ getD (set old at start) x 0) (eqb-true at place e) (omega arith))
           (λ e. let z = other place e in omega arith);
       here = omega arith;
       only = λ place. by-test (eqb at place)
           (λ e.
           let z = eqb-true at place e in
-          set (sym z) (subst (λ (x : ℕ). getD (lists.set old at start) x 0 ≡ start) z new))
+          put (sym z) (subst (λ (x : ℕ). getD (set old at start) x 0 ≡ start) z new))
           (λ e. same (other place e));
     }
   where
-    other : (place : ℕ) → eqb at place ≡ false → getD (lists.set old at start) place 0 ≡ getD old place 0
+    other : (place : ℕ) → eqb at place ≡ false → getD (set old at start) place 0 ≡ getD old place 0
     other place e =
         let z = eqb-false at place e in
         getD-set-other old at place start 0 (λ q. z (sym q))
@@ -62,7 +61,7 @@ changed-then :
     → getD new place 0 ≡ getD mid place 0
     → Changed old new start place W
 changed-then old mid new start place W (same e) q = same (q ∙ e)
-changed-then old mid new start place W (set w e) q = set w (q ∙ e)
+changed-then old mid new start place W (put w e) q = put w (q ∙ e)
 
 changed-next :
     (old mid new : List ℕ) (start place : ℕ) (W Z : Type 0) → Changed old mid start place W
@@ -70,7 +69,7 @@ changed-next :
     → Changed mid new start place Z
     → Changed old new start place W
 changed-next old mid new start place W Z before f (same e) = changed-then old mid new start place W before e
-changed-next old mid new start place W Z before f (set v e) = set (f v) e
+changed-next old mid new start place W Z before f (put v e) = put (f v) e
 
 -- the same as once all are reached, of the variables that are not in `rest`
 pub record Spreading (old links : List ℕ) (row at firing start : ℕ) (new : List ℕ) (rest : ℕ) : Type 0 where
@@ -203,7 +202,7 @@ module _ (old leaves links : List ℕ) (count can low k : ℕ) where
         (Reaches links (placeOf (suc k) 0) done (bitAnd can (getD leaves done 0)) place)
         → RowChanged old leaves links count can low k new place
     row-next new place room known late (same e) = row-then new place (l .only place) e
-    row-next new place room known late (set r e) =
+    row-next new place room known late (put r e) =
         let own = row-own done room in
         moved done known (omega arith) r (e ∙ own)
 

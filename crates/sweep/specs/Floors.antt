@@ -48,3 +48,9 @@ pub record Floor (plan bytes : List ℕ) (n c duration floor : ℕ) : Type 0 whe
       (p : Pattern) → Of p plan bytes n c → p .duration ≡ duration
       → (x : ℕ) → List·Memᴰ (over x) (foundAll p (recordsOf bytes))
       → floor ≤ x
+
+-- the first record whose window has record j
+pub record FirstOpen (bytes : List ℕ) (duration j first : ℕ) : Type 0 where
+  pub upTo : first ≤ j
+  pub past : (i : ℕ) → i < first → Past bytes duration i j
+  pub near : recordAt bytes j .time ≤ recordAt bytes first .time + duration

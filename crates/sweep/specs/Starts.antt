@@ -5,7 +5,7 @@ use mathlib.Core.Bool.{Bool, true, false}
 use mathlib.Core.List.{List}
 use Prim.Native.Nat.{ℕ, suc, _+_, _*_, _≤_, _<_}
 use lib.Bits.{bitAnd}
-use lib.ListN.{length, getD}
+use lib.ListN.{length, getD, set}
 use Rattle.numbers.specs.Bits.{bit}
 use Rattle.rule.specs.Promises.{mostBindings}
 use Rattle.sweep.specs.States.{mostStates, linkAt}
@@ -21,7 +21,7 @@ mostPlaces = placeOf (mostBindings + 1) 0
 -- a place is what it was, or it has the start
 pub data Changed (old new : List ℕ) (start place : ℕ) (Where : Type 0) : Type 0 where
   same : getD new place 0 ≡ getD old place 0 → Changed old new start place Where
-  set : Where → getD new place 0 ≡ start → Changed old new start place Where
+  put : Where → getD new place 0 ≡ start → Changed old new start place Where
 
 -- a place has the start now, if it was less
 pub record Raised (old : List ℕ) (at start : ℕ) (new : List ℕ) : Type 0 where
@@ -88,3 +88,8 @@ pub record Advanced (old leaves links : List ℕ) (count can low : ℕ) (new : L
       (m at v : ℕ) → k ≤ m → m < mostBindings → at < count → low < getD old (placeOf m at) 0
       → bit (bitAnd can (getD leaves at 0)) v ≡ true
       → getD old (placeOf m at) 0 ≤ getD new (placeOf (suc m) 0 + getD links (linkAt at v) 0) 0
+
+-- record j begins readings, and unless one of the last row leads on, all rows do
+pub record Moved (old leaves links : List ℕ) (count can low j : ℕ) (new : List ℕ) (is : Bool) : Type 0 where
+  pub over : IsOver (set old 0 (j + 1)) leaves count can low is
+  pub moved : is ≡ false → Advanced (set old 0 (j + 1)) leaves links count can low new 0

@@ -2,13 +2,18 @@
 ghost use mathlib.Core.Path.{_≡_};
 ghost use mathlib.Core.Bool.{true};
 ghost use Prim.Native.Nat.{ℕ, _+_, _^_, _<_, _≤_};
+ghost use lib.Dec.{ltb};
 ghost use lib.ListN.{length, getD, replicate};
 ghost use Rattle.numbers.specs.Bits.{bit};
+ghost use Rattle.records.specs.Records.{recordCount};
+ghost use Rattle.records.specs.Blocks.{mostRecords};
 ghost use Rattle.patterns.specs.Patterns.{mostVariables};
 ghost use Rattle.rule.specs.Promises.{mostBindings};
 ghost use Rattle.firing.specs.Plan.{planRoom};
+ghost use Rattle.reach.specs.Readings.{Cans, Usable};
 ghost use Rattle.sweep.specs.States.{mostStates, linkAt, mostLinks, Put, Linked, Listed, Inside};
-ghost use Rattle.sweep.specs.Starts.{mostPlaces, Raised, Spread, RowSpread, IsOver, Advanced};
+ghost use Rattle.sweep.specs.Starts.{mostPlaces, Raised, Spread, RowSpread, IsOver, Advanced, Moved};
+ghost use Rattle.sweep.specs.Floors.{Past, FirstOpen, Floor};
 
 // How many states are listed at most: as many as two sets of six variables have, and more than there are of any other
 // pattern.
@@ -190,7 +195,14 @@ fn spread_row(
             at += 1;
             continue;
         }
-        spread(starts, links, row + MOST_STATES, at, can & leaves[at], start);
+        spread(
+            starts,
+            links,
+            row + MOST_STATES,
+            at,
+            can & leaves[at],
+            start,
+        );
         at += 1;
     }
 }
@@ -240,4 +252,63 @@ fn advance(
         k -= 1;
         spread_row(starts, leaves, links, count, can, low, k);
     }
+}
+
+// A record that can be bound: it may begin readings, and each row leads on. Whether a reading could take a binding too
+// many there; if so nothing has moved.
+fn is_over_at(
+    starts: &mut [u16; MOST_PLACES],
+    leaves: &[u64; MOST_STATES],
+    links: &[u8; MOST_LINKS],
+    count: usize,
+    can: u64,
+    low: usize,
+    j: usize,
+) -> bool
+    requires { ⌜ (length (now starts) ≡ mostPlaces) × Inside (now leaves) (now links) count
+        × (can < 2 ^ mostVariables) × (j < mostRecords) ⌝ }
+    ensures { λ r. ⌜ Moved (now (starts .entry)) (now (leaves .entry)) (now (links .entry)) count can low j
+        (now (starts .exit)) r ⌝ }
+{
+    starts[0] = (j + 1) as u16;
+    if is_over(starts, leaves, count, can, low) {
+        return true;
+    }
+    advance(starts, leaves, links, count, can, low);
+    false
+}
+
+// ## The sweep
+
+fn no_starts() -> [u16; MOST_PLACES]
+    ensures { λ r. ⌜ r ≡ replicate mostPlaces 0 ⌝ }
+{
+    [0; MOST_PLACES]
+}
+
+// Whether a time is more than the duration after the first.
+fn is_past(first: u64, duration: u64, time: u64) -> bool
+    ensures { λ r. ⌜ r ≡ ltb (first + duration) time ⌝ }
+{
+    if time < first {
+        return false;
+    }
+    duration < time - first
+}
+
+// The first record, from `low` on, whose window has record j.
+fn first_open(block: &[u8], duration: u64, low: usize, j: usize) -> usize
+    requires { ⌜ (j < recordCount (now block)) × (low ≤ j)
+        × ((i : ℕ) → i < low → Past (now block) duration i j) ⌝ }
+    ensures { λ r. ⌜ FirstOpen (now (block .entry)) duration j r ⌝ }
+{
+    let time = records::time_at(block, j);
+    let mut i = low;
+    while i < j {
+        if !is_past(records::time_at(block, i), duration, time) {
+            return i;
+        }
+        i += 1;
+    }
+    i
 }
