@@ -23,6 +23,12 @@ const MOST_LINKS: usize = MOST_STATES * patterns::MOST_VARIABLES;
 
 const MOST_PLACES: usize = (slots::MOST_BINDINGS + 1) * MOST_STATES;
 
+// The first record at which a reading could take a binding too many, and whether one does.
+pub struct Swept {
+    pub floor: usize,
+    pub exact: bool,
+}
+
 // ## The states
 
 fn no_states() -> [u64; MOST_STATES]
@@ -311,4 +317,57 @@ fn first_open(block: &[u8], duration: u64, low: usize, j: usize) -> usize
         i += 1;
     }
     i
+}
+
+// The first record at which a reading could take a binding too many, by own conditions alone; the number of records
+// where there is none.
+pub fn sweep(
+    block: &[u8],
+    plan: &[u64; firing::PLAN_ROOM],
+    cans: &[u16; records::MOST_RECORDS],
+    n: usize,
+    c: usize,
+    duration: u64,
+) -> Swept
+    requires { ⌜ (Usable (now plan) (now block) n c) × Cans (now plan) (now block) n c (now cans) ⌝ }
+    ensures { λ r. ⌜ Floor (now (plan .entry)) (now (block .entry)) n c duration (r .floor) ⌝ }
+{
+    let mut states = no_states();
+    let mut leaves = no_states();
+    let mut links = no_links();
+    let known = list_states(plan, n, &mut states, &mut leaves, &mut links);
+    if MOST_STATES < known {
+        return Swept {
+            floor: 0,
+            exact: false,
+        };
+    }
+    let mut starts = no_starts();
+    let count = block.len() / records::RECORD_BYTES;
+    let mut low = 0;
+    let mut j = 0;
+    while j < count {
+        if records::unpack(block, j).kind != records::EVENT {
+            starts = no_starts();
+            j += 1;
+            continue;
+        }
+        let can = cans[j] as u64;
+        if can == 0 {
+            j += 1;
+            continue;
+        }
+        low = first_open(block, duration, low, j);
+        if is_over_at(&mut starts, &leaves, &links, known, can, low, j) {
+            return Swept {
+                floor: j,
+                exact: false,
+            };
+        }
+        j += 1;
+    }
+    Swept {
+        floor: count,
+        exact: false,
+    }
 }
