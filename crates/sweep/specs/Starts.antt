@@ -45,11 +45,11 @@ pub record Spread (old links : List ℕ) (row at firing start : ℕ) (new : List
 
 -- ## A row
 
--- a place is what it was, or it has the start of a state of row k that leads to it by a variable that fires; starts up to
--- `low` are out
+-- a place is what it was, or it has the start of a state of row k that leads to it by a variable that fires; starts up
+-- to `low` are out
 pub data RowChanged (old leaves links : List ℕ) (count can low k : ℕ) (new : List ℕ) (place : ℕ) : Type 0 where
-  stays : getD new place 0 ≡ getD old place 0 → RowChanged old leaves links count can low k new place
-  moved :
+  rests : getD new place 0 ≡ getD old place 0 → RowChanged old leaves links count can low k new place
+  arrives :
       (at : ℕ) → at < count → low < getD old (placeOf k at) 0
       → Reaches links (placeOf (suc k) 0) at (bitAnd can (getD leaves at 0)) place
       → getD new place 0 ≡ getD old (placeOf k at) 0
@@ -78,18 +78,57 @@ pub record IsOver (starts leaves : List ℕ) (count can low : ℕ) (is : Bool) :
       is ≡ false → (at : ℕ) → at < count → low < getD starts (placeOf mostBindings at) 0
       → bitAnd can (getD leaves at 0) ≡ 0
 
+-- ## A row that is left
+
+-- a place is what it was, or it is cleared: with `tight`, where it is a state of row k that a variable leaves
+pub data Cleared (old leaves : List ℕ) (count can : ℕ) (tight : Bool) (k : ℕ) (new : List ℕ) (place : ℕ) : Type 0 where
+  remains : getD new place 0 ≡ getD old place 0 → Cleared old leaves count can tight k new place
+  cleared :
+      (at : ℕ) → at < count → place ≡ placeOf k at → tight ≡ true → 0 < bitAnd can (getD leaves at 0)
+      → getD new place 0 ≡ 0
+      → Cleared old leaves count can tight k new place
+
+-- with `tight` each such state, up to `done`, is cleared
+pub record Settled (old leaves : List ℕ) (count can : ℕ) (tight : Bool) (k : ℕ) (new : List ℕ)
+    (done : ℕ) : Type 0 where
+  pub size : length new ≡ length old
+  pub only : (place : ℕ) → Cleared old leaves count can tight k new place
+  pub gone :
+      tight ≡ true → (at : ℕ) → at < done → 0 < bitAnd can (getD leaves at 0) → getD new (placeOf k at) 0 ≡ 0
+
 -- ## All rows
 
--- each state of the rows from k on has led to the next row
-pub record Advanced (old leaves links : List ℕ) (count can low : ℕ) (new : List ℕ) (k : ℕ) : Type 0 where
+-- where the start of a place is from: it stays, with `tight` in a state that no variable leaves, or a state of the row
+-- before leads there
+pub data Came (old leaves links : List ℕ) (count can low : ℕ) (tight : Bool) (k at start : ℕ) : Type 0 where
+  stayed :
+      getD old (placeOf k at) 0 ≡ start → (tight ≡ true → at < count → bitAnd can (getD leaves at 0) ≡ 0)
+      → Came old leaves links count can low tight k at start
+  moved :
+      (l from v : ℕ) → k ≡ suc l → from < count → low < getD old (placeOf l from) 0
+      → getD old (placeOf l from) 0 ≡ start
+      → bit (bitAnd can (getD leaves from 0)) v ≡ true
+      → getD links (linkAt from v) 0 ≡ at
+      → Came old leaves links count can low tight k at start
+
+-- the rows from k on have led on
+pub record Advanced (old leaves links : List ℕ) (count can low : ℕ) (tight : Bool) (new : List ℕ)
+    (k : ℕ) : Type 0 where
   pub size : length new ≡ length old
-  pub above : (place : ℕ) → getD old place 0 ≤ getD new place 0
+  pub before : (m at : ℕ) → m < k → at < mostStates → getD new (placeOf m at) 0 ≡ getD old (placeOf m at) 0
+  pub stays :
+      (m at : ℕ) → k ≤ m → at < mostStates → (tight ≡ true → bitAnd can (getD leaves at 0) ≡ 0)
+      → getD old (placeOf m at) 0 ≤ getD new (placeOf m at) 0
   pub here :
       (m at v : ℕ) → k ≤ m → m < mostBindings → at < count → low < getD old (placeOf m at) 0
       → bit (bitAnd can (getD leaves at 0)) v ≡ true
       → getD old (placeOf m at) 0 ≤ getD new (placeOf (suc m) 0 + getD links (linkAt at v) 0) 0
+  pub came :
+      (m at : ℕ) → k ≤ m → m ≤ mostBindings → at < mostStates → low < getD new (placeOf m at) 0
+      → Came old leaves links count can low tight m at (getD new (placeOf m at) 0)
 
 -- record j begins readings, and unless one of the last row leads on, all rows do
-pub record Moved (old leaves links : List ℕ) (count can low j : ℕ) (new : List ℕ) (is : Bool) : Type 0 where
+pub record Moved (old leaves links : List ℕ) (count can low : ℕ) (tight : Bool) (j : ℕ) (new : List ℕ)
+    (is : Bool) : Type 0 where
   pub over : IsOver (set old 0 (j + 1)) leaves count can low is
-  pub moved : is ≡ false → Advanced (set old 0 (j + 1)) leaves links count can low new 0
+  pub moved : is ≡ false → Advanced (set old 0 (j + 1)) leaves links count can low tight new 0

@@ -1,6 +1,6 @@
 // One sweep over the block: the first record at which a reading could take a binding too many.
 ghost use mathlib.Core.Path.{_≡_};
-ghost use mathlib.Core.Bool.{true};
+ghost use mathlib.Core.Bool.{true, false};
 ghost use Prim.Native.Nat.{ℕ, _+_, _^_, _<_, _≤_};
 ghost use lib.Dec.{ltb};
 ghost use lib.ListN.{length, getD, replicate};
@@ -12,14 +12,18 @@ ghost use Rattle.rule.specs.Promises.{mostBindings};
 ghost use Rattle.firing.specs.Plan.{planRoom};
 ghost use Rattle.reach.specs.Readings.{Cans, Usable};
 ghost use Rattle.sweep.specs.States.{mostStates, linkAt, mostLinks, Put, Linked, Listed, Inside};
-ghost use Rattle.sweep.specs.Starts.{mostPlaces, Raised, Spread, RowSpread, IsOver, Advanced, Moved};
-ghost use Rattle.sweep.specs.Floors.{Past, FirstOpen, Floor};
+ghost use Rattle.sweep.specs.Starts.{mostPlaces, Raised, Spread, RowSpread, Settled, IsOver, Advanced};
+ghost use Rattle.sweep.specs.Starts.{Moved};
+ghost use Rattle.sweep.specs.Floors.{Past, FirstOpen, Free, Floor, Reached};
 
 // How many states are listed at most: as many as two sets of six variables have, and more than there are of any other
 // pattern.
 const MOST_STATES: usize = 128;
 
 const MOST_LINKS: usize = MOST_STATES * patterns::MOST_VARIABLES;
+
+// Where a plan has the conditions that join each variable.
+const FIRST_JOINS: usize = patterns::MOST_CONDITIONS + 3 * patterns::MOST_VARIABLES;
 
 const MOST_PLACES: usize = (slots::MOST_BINDINGS + 1) * MOST_STATES;
 
@@ -90,7 +94,8 @@ fn link(
     requires { ⌜ (length (now states) ≡ mostStates) × (length (now links) ≡ mostLinks) × (at < count)
         × (count ≤ mostStates) × (leave < 2 ^ mostVariables) ⌝ }
     ensures { λ more. ⌜ (more ≤ mostStates
-        → Linked (now (states .entry)) (now (links .entry)) count at leave (now (states .exit)) (now (links .exit)) more) ⌝ }
+        → Linked (now (states .entry)) (now (links .entry)) count at leave
+        (now (states .exit)) (now (links .exit)) more) ⌝ }
 {
     let from = states[at];
     let mut more = count;
@@ -158,8 +163,8 @@ fn spread(
     firing: u64,
     start: u16,
 )
-    requires { ⌜ (length (now starts) ≡ mostPlaces) × (length (now links) ≡ mostLinks) × (row + mostStates ≤ mostPlaces)
-        × (at < mostStates) × (firing < 2 ^ mostVariables)
+    requires { ⌜ (length (now starts) ≡ mostPlaces) × (length (now links) ≡ mostLinks)
+        × (row + mostStates ≤ mostPlaces) × (at < mostStates) × (firing < 2 ^ mostVariables)
         × ((v : ℕ) → bit firing v ≡ true → getD (now links) (linkAt at v) 0 < mostStates) ⌝ }
     ensures { λ r. ⌜ Spread (now (starts .entry)) (now (links .entry)) row at firing start (now (starts .exit)) ⌝ }
 {
@@ -178,7 +183,8 @@ fn wide(x: u16) -> usize
     x as usize
 }
 
-// Each state of row k leads on, by the variables that can fire and leave it, to the next row. Starts up to `low` are out.
+// Each state of row k leads on, by the variables that can fire and leave it, to the next row. Starts up to `low` are
+// out.
 fn spread_row(
     starts: &mut [u16; MOST_PLACES],
     leaves: &[u64; MOST_STATES],
@@ -209,6 +215,35 @@ fn spread_row(
             can & leaves[at],
             start,
         );
+        at += 1;
+    }
+}
+
+// With `tight` no state of row k keeps its start that a variable leaves: a reading passes over no record that it can be
+// bound to.
+fn settle_row(
+    starts: &mut [u16; MOST_PLACES],
+    leaves: &[u64; MOST_STATES],
+    count: usize,
+    can: u64,
+    tight: bool,
+    k: usize,
+)
+    requires { ⌜ (length (now starts) ≡ mostPlaces) × (length (now leaves) ≡ mostStates) × (count ≤ mostStates)
+        × (k < mostBindings) ⌝ }
+    ensures { λ r. ⌜ Settled (now (starts .entry)) (now (leaves .entry)) count can tight k (now (starts .exit)) count ⌝ }
+{
+    if !tight {
+        return;
+    }
+    let row = k * MOST_STATES;
+    let mut at = 0;
+    while at < count {
+        if can & leaves[at] == 0 {
+            at += 1;
+            continue;
+        }
+        starts[row + at] = 0;
         at += 1;
     }
 }
@@ -247,16 +282,18 @@ fn advance(
     count: usize,
     can: u64,
     low: usize,
+    tight: bool,
 )
-    requires { ⌜ (length (now starts) ≡ mostPlaces) × Inside (now leaves) (now links) count
-        × (can < 2 ^ mostVariables) ⌝ }
-    ensures { λ r. ⌜ Advanced (now (starts .entry)) (now (leaves .entry)) (now (links .entry)) count can low
+    requires { ⌜ (length (now starts) ≡ mostPlaces) × Inside (now leaves) (now links) count × (can < 2 ^ mostVariables)
+        × IsOver (now starts) (now leaves) count can low false ⌝ }
+    ensures { λ r. ⌜ Advanced (now (starts .entry)) (now (leaves .entry)) (now (links .entry)) count can low tight
         (now (starts .exit)) 0 ⌝ }
 {
     let mut k = slots::MOST_BINDINGS;
     while 0 < k {
         k -= 1;
         spread_row(starts, leaves, links, count, can, low, k);
+        settle_row(starts, leaves, count, can, tight, k);
     }
 }
 
@@ -269,18 +306,19 @@ fn is_over_at(
     count: usize,
     can: u64,
     low: usize,
+    tight: bool,
     j: usize,
 ) -> bool
     requires { ⌜ (length (now starts) ≡ mostPlaces) × Inside (now leaves) (now links) count
         × (can < 2 ^ mostVariables) × (j < mostRecords) ⌝ }
-    ensures { λ r. ⌜ Moved (now (starts .entry)) (now (leaves .entry)) (now (links .entry)) count can low j
+    ensures { λ r. ⌜ Moved (now (starts .entry)) (now (leaves .entry)) (now (links .entry)) count can low tight j
         (now (starts .exit)) r ⌝ }
 {
     starts[0] = (j + 1) as u16;
     if is_over(starts, leaves, count, can, low) {
         return true;
     }
-    advance(starts, leaves, links, count, can, low);
+    advance(starts, leaves, links, count, can, low, tight);
     false
 }
 
@@ -319,8 +357,23 @@ fn first_open(block: &[u8], duration: u64, low: usize, j: usize) -> usize
     i
 }
 
+// Whether no condition joins two variables.
+fn is_free(plan: &[u64; firing::PLAN_ROOM]) -> bool
+    requires { ⌜ length (now plan) ≡ planRoom ⌝ }
+    ensures { λ r. ⌜ (r ≡ true → Free (now (plan .entry))) ⌝ }
+{
+    let mut v = 0;
+    while v < patterns::MOST_VARIABLES {
+        if plan[FIRST_JOINS + v] != 0 {
+            return false;
+        }
+        v += 1;
+    }
+    true
+}
+
 // The first record at which a reading could take a binding too many, by own conditions alone; the number of records
-// where there is none.
+// where there is none. Where no condition joins variables, one does take it there.
 pub fn sweep(
     block: &[u8],
     plan: &[u64; firing::PLAN_ROOM],
@@ -330,7 +383,8 @@ pub fn sweep(
     duration: u64,
 ) -> Swept
     requires { ⌜ (Usable (now plan) (now block) n c) × Cans (now plan) (now block) n c (now cans) ⌝ }
-    ensures { λ r. ⌜ Floor (now (plan .entry)) (now (block .entry)) n c duration (r .floor) ⌝ }
+    ensures { λ r. ⌜ Floor (now (plan .entry)) (now (block .entry)) n c duration (r .floor)
+        × (r .exact ≡ true → Reached (now (plan .entry)) (now (block .entry)) n c duration (r .floor)) ⌝ }
 {
     let mut states = no_states();
     let mut leaves = no_states();
@@ -342,6 +396,7 @@ pub fn sweep(
             exact: false,
         };
     }
+    let tight = is_free(plan);
     let mut starts = no_starts();
     let count = block.len() / records::RECORD_BYTES;
     let mut low = 0;
@@ -358,10 +413,10 @@ pub fn sweep(
             continue;
         }
         low = first_open(block, duration, low, j);
-        if is_over_at(&mut starts, &leaves, &links, known, can, low, j) {
+        if is_over_at(&mut starts, &leaves, &links, known, can, low, tight, j) {
             return Swept {
                 floor: j,
-                exact: false,
+                exact: tight,
             };
         }
         j += 1;

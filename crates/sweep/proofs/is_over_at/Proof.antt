@@ -1,8 +1,8 @@
 -- `sweep::is_over_at` meets its contract. Assumes nothing.
-use mathlib.Core.Path.{subst}
+use mathlib.Core.Path.{subst, _∙_}
 use mathlib.Core.Bool.{true≢false}
 use Prim.Native.Nat.{_+_}
-use lib.ListN.{set}
+use lib.ListN.{set, length-set}
 use Rattle.sweep.specs.Starts.{IsOver}
 use borrow.Author.Needs.{needs}
 use Rattle.sweep.proofs.is_over_at.Statement.{statement}
@@ -23,15 +23,24 @@ is-over-requires c κs = search needs
 returns : tie.Need-returns
 returns c =
     let a = c .before .before .before .args in
-    record { over = subst (IsOver (set (a .starts .now) 0 (a .j + 1)) (a .leaves .now) (a .count) (a .can) (a .low)) (c .if1 .taken) (c .before .is-over .ensures); moved = λ e. absurd (true≢false e) }
+    record {
+      over = subst (IsOver (set (a .starts .now) 0 (a .j + 1)) (a .leaves .now) (a .count) (a .can) (a .low)) (c .if1 .taken) (c .before .is-over .ensures);
+      moved = λ e. absurd (true≢false e);
+    }
 
 advance-requires : tie.Need-advance-requires
-advance-requires c κs = search needs
+advance-requires c κs =
+    let a = c .before .before .before .before .args in
+    let pre = c .before .before .before .before .pre in
+    (length-set (a .starts .now) 0 (a .j + 1) ∙ pre .0, pre .1, pre .2, subst (IsOver (set (a .starts .now) 0 (a .j + 1)) (a .leaves .now) (a .count) (a .can) (a .low)) (c .before .if1 .left) (c .before .before .is-over .ensures))
 
 returns-2 : tie.Need-returns-2
 returns-2 c =
     let a = c .before .before .before .before .before .args in
-    record { over = subst (IsOver (set (a .starts .now) 0 (a .j + 1)) (a .leaves .now) (a .count) (a .can) (a .low)) (c .before .before .if1 .left) (c .before .before .before .is-over .ensures); moved = λ e. c .advance .ensures }
+    record {
+      over = subst (IsOver (set (a .starts .now) 0 (a .j + 1)) (a .leaves .now) (a .count) (a .can) (a .low)) (c .before .before .if1 .left) (c .before .before .before .is-over .ensures);
+      moved = λ e. c .advance .ensures;
+    }
 
 pub is-over-at-spec : {M : Type 1} → statement M
 is-over-at-spec =

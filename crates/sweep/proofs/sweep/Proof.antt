@@ -1,24 +1,26 @@
--- `sweep::sweep` meets its contract. The loop's invariant: the starts hold all that readings could have come to before
--- record j, and the windows of the records before `low` are past. Assumes nothing.
+-- `sweep::sweep` meets its contract. The loop's invariant: the starts are those of all that readings could have come to
+-- before record j, and the windows of the records before `low` are past. Assumes nothing.
 use native.Mathlib.Omega.{arith}
 use mathlib.Core.Path.{_≡_, sym, ap, subst, _∙_}
+use mathlib.Core.Bool.{false, true≢false}
 use Prim.Native.Nat.{ℕ, _-_, _≤_}
+use lib.ListN.{getD}
 use Rattle.records.specs.declared.Record.{Record}
 use Rattle.records.specs.Records.{recordAt, recordCount, eventKind}
 use Rattle.reach.proofs.Masks.{read-bound}
 use Rattle.sweep.specs.Starts.{Moved}
 use Rattle.sweep.specs.Floors.{Floor}
-use Rattle.sweep.proofs.Keeping.{Going, floor-none, going-none, going-inside, going-floor, going-gap, going-idle}
-use Rattle.sweep.proofs.Keeping.{going-past, going-moved}
+use Rattle.sweep.proofs.Going.{Going, floor-none, going-none, going-inside, going-floor, going-past, going-gap}
+use Rattle.sweep.proofs.Going.{going-idle, going-moved, going-over}
 use borrow.Author.Needs.{needs}
 use Rattle.sweep.proofs.sweep.Statement.{statement}
 use Rattle.sweep.proofs.sweep.Tie as tie
 
 abbrev Inv-loop : tie.InvT-loop
-Inv-loop block plan cans n c duration leaves links known starts₀ count low₀ j₀ starts low j = (j ≤ count) × Going plan block n c duration leaves links known starts low j
+Inv-loop block plan cans n c duration leaves links known tight starts₀ count low₀ j₀ starts low j = (j ≤ count) × Going plan block n c duration tight leaves links known starts low j
 
 abbrev μ-loop : tie.MeasureT-loop
-μ-loop block plan cans n c duration leaves links known starts₀ count low₀ j₀ starts low j = count - j
+μ-loop block plan cans n c duration leaves links known tight starts₀ count low₀ j₀ starts low j = count - j
 
 no-states-requires : tie.Need-no-states-requires Inv-loop μ-loop
 no-states-requires c κs = search needs
@@ -35,16 +37,19 @@ list-states-requires c κs =
     (usable .sound .size, usable .variables, c .before .before .before .before .before .no-states .ensures, c .before .before .before .before .no-states2 .ensures, c .before .before .before .no-links .ensures)
 
 returns : tie.Need-returns Inv-loop μ-loop
-returns c = let a = c .before .before .before .before .before .before .before .before .before .args in floor-none (a .plan .now) (a .block .now) (a .n) (a .c) (a .duration)
+returns c = let a = c .before .before .before .before .before .before .before .before .before .args in (floor-none (a .plan .now) (a .block .now) (a .n) (a .c) (a .duration), λ e. absurd (true≢false (sym e)))
+
+is-free-requires : tie.Need-is-free-requires Inv-loop μ-loop
+is-free-requires c κs = c .before .before .before .before .before .before .before .before .before .pre .0 .sound .size
 
 no-starts-requires : tie.Need-no-starts-requires Inv-loop μ-loop
 no-starts-requires c κs = search needs
 
 loop-holds : tie.Need-loop-holds Inv-loop μ-loop
 loop-holds c =
-    let a = c .before .before .before .before .before .before .before .before .before .before .args in
-    let s = c .before .before .list-states in
-    (omega arith, going-none (a .plan .now) (a .block .now) (a .n) (a .c) (a .duration) (c .before .before .before .before .before .before .before .before .before .before .pre .0) (s .last .1 .1 .1 .0) (s .last .1 .1 .1 .1 .0) (s .result) (s .last .1 .1 .0) (c .no-starts .result) (s .ensures (c .before .if1 .left)) (c .no-starts .ensures))
+    let a = c .before .before .before .before .before .before .before .before .before .before .before .args in
+    let s = c .before .before .before .list-states in
+    (omega arith, going-none (a .plan .now) (a .block .now) (a .n) (a .c) (a .duration) (c .before .before .before .before .before .before .before .before .before .before .before .pre .0) (c .before .is-free .result) (s .last .1 .1 .1 .0) (s .last .1 .1 .1 .1 .0) (s .result) (c .before .is-free .ensures) (s .last .1 .1 .0) (c .no-starts .result) (s .ensures (c .before .before .if1 .left)) (c .no-starts .ensures))
 
 unpack-requires : tie.Need-unpack-requires Inv-loop μ-loop
 unpack-requires c κs =
@@ -62,29 +67,29 @@ loop-less c = search needs
 
 loop-again : tie.Need-loop-again Inv-loop μ-loop
 loop-again c =
-    let a = c .before .before .before .before .before .before .before .before .before .before .before .before .before .before .before .before .args in
+    let a = c .before .before .before .before .before .before .before .before .before .before .before .before .before .before .before .before .before .args in
     let h = c .before .before .before .before .before .loop in
     let here = c .before .before .before .before .loop-test .taken in
-    let s = c .before .before .before .before .before .before .before .before .list-states in
+    let s = c .before .before .before .before .before .before .before .before .before .list-states in
     let gap : recordAt (a .block .now) (h .j) .kind ≡ eventKind → ⊥ = λ e. c .before .if2 .taken (ap (λ (x : Record). x .kind) (c .before .before .before .unpack .ensures) ∙ e) in
-    (omega arith, going-gap (a .plan .now) (a .block .now) (a .n) (a .c) (a .duration) (c .before .before .before .before .before .before .before .before .before .before .before .before .before .before .before .before .pre .0) (s .last .1 .1 .1 .0) (s .last .1 .1 .1 .1 .0) (s .result) (h .starts) (h .low) (h .j) (h .inv .1) gap (c .no-starts2 .result) (c .no-starts2 .ensures))
+    (omega arith, going-gap (a .plan .now) (a .block .now) (a .n) (a .c) (a .duration) (c .before .before .before .before .before .before .before .before .before .before .before .before .before .before .before .before .before .pre .0) (c .before .before .before .before .before .before .before .is-free .result) (s .last .1 .1 .1 .0) (s .last .1 .1 .1 .1 .0) (s .result) (h .starts) (h .low) (h .j) (h .inv .1) gap (c .no-starts2 .result) (c .no-starts2 .ensures))
 
 mul-can : tie.Need-mul-can Inv-loop μ-loop
 mul-can c =
-    let records = c .before .before .before .before .before .before .before .before .before .before .before .before .before .before .before .pre .0 .records in
+    let records = c .before .before .before .before .before .before .before .before .before .before .before .before .before .before .before .before .pre .0 .records in
     let here = c .before .before .before .loop-test .taken in
     omega arith
 
 element-copy-out-can : tie.Need-element-copy-out-can Inv-loop μ-loop
 element-copy-out-can c =
-    let records = c .before .before .before .before .before .before .before .before .before .before .before .before .before .before .before .pre .0 .records in
+    let records = c .before .before .before .before .before .before .before .before .before .before .before .before .before .before .before .before .pre .0 .records in
     let here = c .before .before .before .loop-test .taken in
     omega arith
 
 cast-can : tie.Need-cast-can Inv-loop μ-loop
 cast-can c =
-    let a = c .before .before .before .before .before .before .before .before .before .before .before .before .before .before .before .before .args in
-    let pre = c .before .before .before .before .before .before .before .before .before .before .before .before .before .before .before .before .pre in
+    let a = c .before .before .before .before .before .before .before .before .before .before .before .before .before .before .before .before .before .args in
+    let pre = c .before .before .before .before .before .before .before .before .before .before .before .before .before .before .before .before .before .pre in
     let here = c .before .before .before .before .loop-test .taken in
     let small = read-bound (a .plan .now) (a .block .now) (a .n) (a .c) (pre .0 .variables) (a .cans .now) (pre .1) (c .before .before .before .before .before .loop .j) (omega arith) in
     omega arith
@@ -97,44 +102,50 @@ loop-less-2 c = search needs
 
 loop-again-2 : tie.Need-loop-again-2 Inv-loop μ-loop
 loop-again-2 c =
-    let a = c .before .before .before .before .before .before .before .before .before .before .before .before .before .before .before .before .before .args in
+    let a = c .before .before .before .before .before .before .before .before .before .before .before .before .before .before .before .before .before .before .args in
     let h = c .before .before .before .before .before .before .loop in
     let here = c .before .before .before .before .before .loop-test .taken in
-    let s = c .before .before .before .before .before .before .before .before .before .list-states in
-    let idle = sym (c .before .before .before .before .before .before .before .before .before .before .before .before .before .before .before .before .before .pre .1 .each (h .j) (omega arith)) ∙ c .if3 .taken in
-    (omega arith, going-idle (a .plan .now) (a .block .now) (a .n) (a .c) (a .duration) (c .before .before .before .before .before .before .before .before .before .before .before .before .before .before .before .before .before .pre .0) (s .last .1 .1 .1 .0) (s .last .1 .1 .1 .1 .0) (s .result) (h .starts) (h .low) (h .j) (h .inv .1) idle)
+    let s = c .before .before .before .before .before .before .before .before .before .before .list-states in
+    let idle = sym (c .before .before .before .before .before .before .before .before .before .before .before .before .before .before .before .before .before .before .pre .1 .each (h .j) (omega arith)) ∙ c .if3 .taken in
+    let event = sym (ap (λ (x : Record). x .kind) (c .before .before .before .before .unpack .ensures)) ∙ c .before .before .if2 .left in
+    (omega arith, going-idle (a .plan .now) (a .block .now) (a .n) (a .c) (a .duration) (c .before .before .before .before .before .before .before .before .before .before .before .before .before .before .before .before .before .before .pre .0) (c .before .before .before .before .before .before .before .before .is-free .result) (s .last .1 .1 .1 .0) (s .last .1 .1 .1 .1 .0) (s .result) (h .starts) (h .low) (h .j) (h .inv .1) (omega arith) event idle)
 
 first-open-requires : tie.Need-first-open-requires Inv-loop μ-loop
 first-open-requires c κs =
-    let a = c .before .before .before .before .before .before .before .before .before .before .before .before .before .before .before .before .before .args in
+    let a = c .before .before .before .before .before .before .before .before .before .before .before .before .before .before .before .before .before .before .args in
     let h = c .before .before .before .before .before .before .loop in
     let here = c .before .before .before .before .before .loop-test .taken in
-    let s = c .before .before .before .before .before .before .before .before .before .list-states in
-    (omega arith, h .inv .1 .before, going-past (a .plan .now) (a .block .now) (a .n) (a .c) (a .duration) (c .before .before .before .before .before .before .before .before .before .before .before .before .before .before .before .before .before .pre .0) (s .last .1 .1 .1 .0) (s .last .1 .1 .1 .1 .0) (s .result) (h .starts) (h .low) (h .j) (h .inv .1) (omega arith))
+    let s = c .before .before .before .before .before .before .before .before .before .before .list-states in
+    (omega arith, h .inv .1 .before, going-past (a .plan .now) (a .block .now) (a .n) (a .c) (a .duration) (c .before .before .before .before .before .before .before .before .before .before .before .before .before .before .before .before .before .before .pre .0) (c .before .before .before .before .before .before .before .before .is-free .result) (s .last .1 .1 .1 .0) (s .last .1 .1 .1 .1 .0) (s .result) (h .starts) (h .low) (h .j) (h .inv .1) (omega arith))
 
 is-over-at-requires : tie.Need-is-over-at-requires Inv-loop μ-loop
 is-over-at-requires c κs =
-    let a = c .before .before .before .before .before .before .before .before .before .before .before .before .before .before .before .before .before .before .before .before .before .args in
-    let pre = c .before .before .before .before .before .before .before .before .before .before .before .before .before .before .before .before .before .before .before .before .before .pre in
+    let a = c .before .before .before .before .before .before .before .before .before .before .before .before .before .before .before .before .before .before .before .before .before .before .args in
+    let pre = c .before .before .before .before .before .before .before .before .before .before .before .before .before .before .before .before .before .before .before .before .before .before .pre in
     let h = c .before .before .before .before .before .before .before .before .before .before .loop in
     let here = c .before .before .before .before .before .before .before .before .before .loop-test .taken in
-    let s = c .before .before .before .before .before .before .before .before .before .before .before .before .before .list-states in
+    let s = c .before .before .before .before .before .before .before .before .before .before .before .before .before .before .list-states in
     let records = pre .0 .records in
-    (h .inv .1 .kept .size, going-inside (a .plan .now) (a .block .now) (a .n) (a .c) (a .duration) (pre .0) (s .last .1 .1 .1 .0) (s .last .1 .1 .1 .1 .0) (s .result) (h .starts) (h .low) (h .j) (h .inv .1), read-bound (a .plan .now) (a .block .now) (a .n) (a .c) (pre .0 .variables) (a .cans .now) (pre .1) (h .j) (omega arith), omega arith)
+    (h .inv .1 .kept .size, going-inside (a .plan .now) (a .block .now) (a .n) (a .c) (a .duration) (pre .0) (c .before .before .before .before .before .before .before .before .before .before .before .before .is-free .result) (s .last .1 .1 .1 .0) (s .last .1 .1 .1 .1 .0) (s .result) (h .starts) (h .low) (h .j) (h .inv .1), read-bound (a .plan .now) (a .block .now) (a .n) (a .c) (pre .0 .variables) (a .cans .now) (pre .1) (h .j) (omega arith), omega arith)
 
 returns-2 : tie.Need-returns-2 Inv-loop μ-loop
 returns-2 c =
-    let a = c .before .before .before .before .before .before .before .before .before .before .before .before .before .before .before .before .before .before .before .before .before .before .before .args in
-    let usable = c .before .before .before .before .before .before .before .before .before .before .before .before .before .before .before .before .before .before .before .before .before .before .before .pre .0 in
+    let a = c .before .before .before .before .before .before .before .before .before .before .before .before .before .before .before .before .before .before .before .before .before .before .before .before .args in
+    let pre = c .before .before .before .before .before .before .before .before .before .before .before .before .before .before .before .before .before .before .before .before .before .before .before .before .pre in
+    let usable = pre .0 in
     let h = c .before .before .before .before .before .before .before .before .before .before .before .before .loop in
     let here = c .before .before .before .before .before .before .before .before .before .before .before .loop-test .taken in
-    let s = c .before .before .before .before .before .before .before .before .before .before .before .before .before .before .before .list-states in
+    let s = c .before .before .before .before .before .before .before .before .before .before .before .before .before .before .before .before .list-states in
+    let free = c .before .before .before .before .before .before .before .before .before .before .before .before .before .before .is-free in
+    let first = c .before .before .before .before .before .first-open in
+    let is = c .before .is-over-at in
+    let event = sym (ap (λ (x : Record). x .kind) (c .before .before .before .before .before .before .before .before .before .before .unpack .ensures)) ∙ c .before .before .before .before .before .before .before .before .if2 .left in
     let records = usable .records in
-    going-floor (a .plan .now) (a .block .now) (a .n) (a .c) (a .duration) usable (s .last .1 .1 .1 .0) (s .last .1 .1 .1 .1 .0) (s .result) (h .starts) (h .low) (h .j) (h .inv .1) (omega arith)
+    (going-floor (a .plan .now) (a .block .now) (a .n) (a .c) (a .duration) usable (free .result) (s .last .1 .1 .1 .0) (s .last .1 .1 .1 .1 .0) (s .result) (h .starts) (h .low) (h .j) (h .inv .1) (omega arith), going-over (a .plan .now) (a .block .now) (a .n) (a .c) (a .duration) usable (free .result) (s .last .1 .1 .1 .0) (s .last .1 .1 .1 .1 .0) (s .result) (h .starts) (h .low) (h .j) (h .inv .1) (omega arith) event (getD (a .cans .now) (h .j) 0) (first .result) (is .last .0) (pre .1 .each (h .j) (omega arith)) (first .ensures) (subst (Moved (h .starts) (s .last .1 .1 .1 .0) (s .last .1 .1 .1 .1 .0) (s .result) (getD (a .cans .now) (h .j) 0) (first .result) (free .result) (h .j) (is .last .0)) (c .if4 .taken) (is .ensures)))
 
 add-j-3 : tie.Need-add-j-3 Inv-loop μ-loop
 add-j-3 c =
-    let records = c .before .before .before .before .before .before .before .before .before .before .before .before .before .before .before .before .before .before .before .before .before .before .before .pre .0 .records in
+    let records = c .before .before .before .before .before .before .before .before .before .before .before .before .before .before .before .before .before .before .before .before .before .before .before .before .pre .0 .records in
     let here = c .before .before .before .before .before .before .before .before .before .before .before .loop-test .taken in
     omega arith
 
@@ -143,25 +154,27 @@ loop-less-3 c = search needs
 
 loop-again-3 : tie.Need-loop-again-3 Inv-loop μ-loop
 loop-again-3 c =
-    let a = c .before .before .before .before .before .before .before .before .before .before .before .before .before .before .before .before .before .before .before .before .before .before .before .args in
-    let pre = c .before .before .before .before .before .before .before .before .before .before .before .before .before .before .before .before .before .before .before .before .before .before .before .pre in
+    let a = c .before .before .before .before .before .before .before .before .before .before .before .before .before .before .before .before .before .before .before .before .before .before .before .before .args in
+    let pre = c .before .before .before .before .before .before .before .before .before .before .before .before .before .before .before .before .before .before .before .before .before .before .before .before .pre in
     let h = c .before .before .before .before .before .before .before .before .before .before .before .before .loop in
     let here = c .before .before .before .before .before .before .before .before .before .before .before .loop-test .taken in
-    let s = c .before .before .before .before .before .before .before .before .before .before .before .before .before .before .before .list-states in
+    let s = c .before .before .before .before .before .before .before .before .before .before .before .before .before .before .before .before .list-states in
+    let free = c .before .before .before .before .before .before .before .before .before .before .before .before .before .before .is-free in
     let first = c .before .before .before .before .before .first-open in
     let is = c .before .is-over-at in
-    (omega arith, going-moved (a .plan .now) (a .block .now) (a .n) (a .c) (a .duration) (pre .0) (s .last .1 .1 .1 .0) (s .last .1 .1 .1 .1 .0) (s .result) (h .starts) (h .low) (h .j) (h .inv .1) _ (first .result) (is .last .0) (pre .1 .each (h .j) (omega arith)) (first .ensures) (subst (Moved (h .starts) (s .last .1 .1 .1 .0) (s .last .1 .1 .1 .1 .0) (s .result) _ (first .result) (h .j) (is .last .0)) (c .if4 .left) (is .ensures)))
+    let event = sym (ap (λ (x : Record). x .kind) (c .before .before .before .before .before .before .before .before .before .before .unpack .ensures)) ∙ c .before .before .before .before .before .before .before .before .if2 .left in
+    (omega arith, going-moved (a .plan .now) (a .block .now) (a .n) (a .c) (a .duration) (pre .0) (free .result) (s .last .1 .1 .1 .0) (s .last .1 .1 .1 .1 .0) (s .result) (h .starts) (h .low) (h .j) (h .inv .1) (omega arith) event (getD (a .cans .now) (h .j) 0) (first .result) (is .last .0) (pre .1 .each (h .j) (omega arith)) (first .ensures) (subst (Moved (h .starts) (s .last .1 .1 .1 .0) (s .last .1 .1 .1 .1 .0) (s .result) (getD (a .cans .now) (h .j) 0) (first .result) (free .result) (h .j) (is .last .0)) (c .if4 .left) (is .ensures)))
 
 returns-3 : tie.Need-returns-3 Inv-loop μ-loop
 returns-3 c =
-    let a = c .before .before .before .before .before .before .before .before .before .before .before .before .args in
-    let usable = c .before .before .before .before .before .before .before .before .before .before .before .before .pre .0 in
+    let a = c .before .before .before .before .before .before .before .before .before .before .before .before .before .args in
+    let usable = c .before .before .before .before .before .before .before .before .before .before .before .before .before .pre .0 in
     let h = c .before .loop in
-    let s = c .before .before .before .before .list-states in
+    let s = c .before .before .before .before .before .list-states in
     let up = h .inv .0 in
     let records = usable .records in
     let e : h .j ≡ recordCount (a .block .now) = omega (arith, c .loop-test .left) in
-    subst (Floor (a .plan .now) (a .block .now) (a .n) (a .c) (a .duration)) e (going-floor (a .plan .now) (a .block .now) (a .n) (a .c) (a .duration) usable (s .last .1 .1 .1 .0) (s .last .1 .1 .1 .1 .0) (s .result) (h .starts) (h .low) (h .j) (h .inv .1) (omega arith))
+    (subst (Floor (a .plan .now) (a .block .now) (a .n) (a .c) (a .duration)) e (going-floor (a .plan .now) (a .block .now) (a .n) (a .c) (a .duration) usable (c .before .before .before .is-free .result) (s .last .1 .1 .1 .0) (s .last .1 .1 .1 .1 .0) (s .result) (h .starts) (h .low) (h .j) (h .inv .1) (omega arith)), λ t. absurd (true≢false (sym t)))
 
 pub sweep-spec : {M : Type 1} → statement M
 sweep-spec =
@@ -174,6 +187,7 @@ sweep-spec =
     no-links-requires
     list-states-requires
     returns
+    is-free-requires
     no-starts-requires
     loop-holds
     unpack-requires
