@@ -1,6 +1,7 @@
 -- Sinks that give the same answer: whatever is found next leaves them so, the answer is the same, and what cannot
 -- change it may be left out. Assumes nothing.
 use mathlib.Core.Path.{_≡_, refl, sym, ap, subst, _∙_}
+use mathlib.Core.Bool.{Bool, true, false, true≢false}
 use mathlib.Core.List.{List, [], _∷_, List·Memᴰ, List·Memᴰ·head, List·Memᴰ·tail}
 use Prim.Native.Nat.{ℕ, _+_, _*_, _/_, _≤_, _<_, min}
 use native.Mathlib.Omega.{arith}
@@ -20,6 +21,15 @@ use Rattle.starts.specs.declared.Counts.{Counts}
 use Rattle.starts.specs.Sinks.{Sink, sinkOf, stop, sum, put, emit, emits, Told, Same, answerBy, leftBy, measureBy}
 use Rattle.starts.specs.Sinks.Same.{equal, known, told}
 use Rattle.starts.proofs.Sinks.{put-room, put-none, least-all}
+
+-- what a finding of a binding too many tells
+unfoldable isOver : Found → Bool
+isOver (closed mark r) = false
+isOver (over j) = true
+
+unfoldable overAt : Found → ℕ
+overAt (closed mark r) = 0
+overAt (over j) = j
 
 -- ## What findings leave as it is
 
@@ -192,6 +202,39 @@ module _ (most : ℕ) where
   cut s l h (counted t) =
       told (sym (length-emits s l)) (sym (least-all l s ∙ least-kept (s .least) l (h .none))) t (told-emits most s l t)
   cut s l h (silent g) = silent-keeps s l (h .none) g
+
+-- ## A binding too many that is known to be the least
+
+least-mem : (none : ℕ) (l : List Found) (k : ℕ) → List·Memᴰ (over k) l → leastOver none l ≤ k
+unfolding leastOver isOver overAt
+least-mem none (closed mark r ∷ l) k (List·Memᴰ·tail m) = least-mem none l k m
+least-mem none (over j ∷ l) k (List·Memᴰ·tail m) = let h = least-mem none l k m in omega arith
+least-mem none (over j ∷ l) k (List·Memᴰ·head e) = let h : k ≡ j = ap overAt e in omega arith
+least-mem none (closed mark r ∷ l) k (List·Memᴰ·head e) = absurd (true≢false (ap isOver e))
+
+least-from : (none k : ℕ) (l : List Found) → k ≤ none → ((x : ℕ) → List·Memᴰ (over x) l → k ≤ x) → k ≤ leastOver none l
+unfolding leastOver
+least-from none k [] h g = h
+least-from none k (closed mark r ∷ l) h g = least-from none k l h (λ x m. g x (List·Memᴰ·tail m))
+least-from none k (over j ∷ l) h g =
+    let a = least-from none k l h (λ x m. g x (List·Memᴰ·tail m)) in
+    let b = g j (List·Memᴰ·head refl) in
+    omega arith
+
+-- it is all that the answer depends on
+pub least-decides :
+    (most : ℕ) (memory : List ℕ) (s : Sink) (l : List Found) (k : ℕ) → length memory ≡ length (s .memory)
+    → k < mostRecords
+    → k ≤ s .least
+    → List·Memᴰ (over k) l
+    → ((x : ℕ) → List·Memᴰ (over x) l → k ≤ x)
+    → (o : Counts) → o .least ≡ k
+    → Same most (sinkOf memory o) (emits s l)
+least-decides most memory s l k n small below m none o e =
+    let a = least-mem (s .least) l k m in
+    let b = least-from (s .least) k l below none in
+    let d = least-all l s in
+    known (n ∙ sym (length-emits s l)) (omega arith) (omega arith)
 
 -- ## The same answer
 

@@ -24,7 +24,8 @@ use Rattle.starts.specs.declared.Window.{Window}
 use Rattle.starts.specs.Sinks.{Sink, sinkOf, stop, emits, Same}
 use Rattle.starts.specs.Sinks.Same.{equal}
 use Rattle.reach.specs.Readings.{firingBy, Usable, Of}
-use Rattle.starts.specs.Skips.{By, Firing, Branching, Settled, giveUp, Branched, branchOver, WindowIs, Floor, AllStarted}
+use Rattle.starts.specs.Skips.{By, Firing, Branching, Settled, giveUp, Branched, branchOver, WindowIs, AllStarted}
+use Rattle.sweep.specs.Floors.{Floor}
 use Rattle.starts.proofs.Sinks.{emits-append}
 use Rattle.starts.proofs.Same.{same-refl, same-trans, same-emits, cut}
 use Rattle.reach.proofs.Readings.{nothing, firing-begins, firing-bound, empty-reads}
@@ -182,7 +183,7 @@ module _ (plan bytes : List ℕ) (n c duration most i : ℕ) (usable : Usable pl
                   record {
                     none = λ p o x m.
                         let q = by-call p o in
-                        floor .none p (q .0) (q .1) x (found-mem p (recordsOf bytes) i (omega (arith, length-records bytes)) (subst (List·Memᴰ (over x)) (whole-list p o) m));
+                        floor .below p (q .0) (q .1) x (found-mem p (recordsOf bytes) i (omega (arith, length-records bytes)) (subst (List·Memᴰ (over x)) (whole-list p o) m));
                   };
             }
 

@@ -136,13 +136,6 @@ pub record WindowIs (bytes : List ℕ) (duration i : ℕ) (s : Window) : Type 0 
   pub closes : (p : Pattern) → p .duration ≡ duration → s .until ≡ until p (recordsOf bytes) i
   pub mark : (p : Pattern) → p .duration ≡ duration → s .mark ≡ markOf p (recordsOf bytes) i
 
--- nothing that is found has a binding too many before record k
-pub record Floor (plan bytes : List ℕ) (n c duration k : ℕ) : Type 0 where
-  pub none :
-      (p : Pattern) → Of p plan bytes n c → p .duration ≡ duration → (x : ℕ)
-      → List·Memᴰ (over x) (foundAll p (recordsOf bytes))
-      → k ≤ x
-
 -- from each record in turn, unless a start was given up
 pub record AllStarted (plan bytes : List ℕ) (n c duration most limit : ℕ) (before after : Sink) : Type 0 where
   pub bounded : limit < giveUp → after .steps < giveUp

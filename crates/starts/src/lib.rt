@@ -20,7 +20,8 @@ ghost use Rattle.firing.specs.Firing.{Fit};
 ghost use Rattle.starts.specs.Sinks.{sinkOf, sum as sumTo, emit, emits, noneYet, answerBy, leftBy, measureBy};
 ghost use Rattle.reach.specs.Readings.{Cans, Reads, Usable, Ready};
 ghost use Rattle.reach.specs.Growing.{NeverFull, NoneOver};
-ghost use Rattle.starts.specs.Skips.{Above, Taking, Branching, Mute, Settled, patience, Floor};
+ghost use Rattle.starts.specs.Skips.{Above, Taking, Branching, Mute, Settled, patience};
+ghost use Rattle.sweep.specs.Floors.{Floor};
 ghost use Rattle.starts.specs.Skips.{Closed, Skipped, Branched, OpenTo, WindowIs, AllStarted, Passed};
 
 // The number of no record.
@@ -472,15 +473,27 @@ fn each_start(
     counts
 }
 
+// The counts where all that matters is a binding too many at a record.
+fn decided(least: usize) -> Counts
+    ensures { λ o. ⌜ o ≡ record { used = 0; readings = 0; least = least; steps = 0 } ⌝ }
+{
+    Counts {
+        used: 0,
+        readings: 0,
+        least,
+        steps: 0,
+    }
+}
+
 // What the answer depends on of all that is found of a checked pattern in a checked block. Counts from `most` on are not
-// told.
+// told. Where a start takes many branches, the block is looked at as a whole, and then the starts once more.
 fn pass(p: patterns::Pattern, block: &[u8], most: usize, result: &mut [u8]) -> Counts
     requires { ⌜ (InOrder p) × BlockInOrder (now block) ⌝ }
     ensures { λ o. ⌜ Passed p (now (block .entry)) most (length (now (result .entry))) (sinkOf (now (result .exit)) o) ⌝ }
 {
     let plan = firing::plan_of(p);
     let cans = reach::all_can(&plan, p.n, p.c, block);
-    each_start(
+    let quick = each_start(
         block,
         &plan,
         p.n,
@@ -488,6 +501,25 @@ fn pass(p: patterns::Pattern, block: &[u8], most: usize, result: &mut [u8]) -> C
         p.duration,
         &cans,
         0,
+        most,
+        GIVE_UP,
+        result,
+    );
+    if quick.steps < GIVE_UP {
+        return quick;
+    }
+    let swept = sweep::sweep(block, &plan, &cans, p.n, p.c, p.duration);
+    if swept.exact {
+        return decided(swept.floor);
+    }
+    each_start(
+        block,
+        &plan,
+        p.n,
+        p.c,
+        p.duration,
+        &cans,
+        swept.floor,
         most,
         PATIENCE,
         result,

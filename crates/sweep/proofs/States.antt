@@ -1,0 +1,251 @@
+-- The list of states as it grows: a state put into it, one that is linked variable by variable, and all of them.
+-- Assumes nothing.
+use mathlib.Core.Path.{_≡_, refl, sym, ap, ap₂, subst, _∙_}
+use mathlib.Core.Bool.{Bool, true, false, not, _&&_}
+use mathlib.Core.List.{List}
+use mathlib.Core.Logic.{⊎-elim}
+use Prim.Native.Nat.{ℕ, zero, suc, _+_, _-_, _*_, _^_, _≤_, _<_}
+use native.Mathlib.Nat.{eq-or-lt-of-le, lt-of-lt-of-le}
+use native.Mathlib.Omega.{arith}
+use lib.Bits.{bitOr}
+use lib.Dec.{eqb}
+use lib.ListN.{length, getD, set, replicate, length-set, length-replicate}
+use lib.Pow.{pow-mono}
+use lib.Seq.{getD-set-same, getD-set-other}
+use borrow.Author.Tests.{eqb-true, eqb-false}
+use Rattle.numbers.specs.Numbers.{oneIf}
+use Rattle.numbers.specs.Bits.{bit, IsLowestBit}
+use Rattle.numbers.proofs.Cases.{by-test, by-order}
+use Rattle.numbers.proofs.Bits.{bit-zero, bit-without, mask-bound}
+use Rattle.patterns.specs.Patterns.{mostVariables}
+use Rattle.automaton.proofs.Membership.{clash}
+use Rattle.firing.specs.Firing.{leavesBy}
+use Rattle.reach.specs.Readings.{leavingBy}
+use Rattle.reach.proofs.MaskInTurn.{low-bits}
+use Rattle.sweep.specs.States.{mostStates, linkAt, mostLinks, Put, Leads, Linked, Listed}
+
+-- ## One state
+
+-- a state that the list has at a place below the count, or that stands behind them
+pub put-at :
+    (old : List ℕ) (count state at : ℕ) → length old ≡ mostStates → at < mostStates → at ≤ count
+    → (at < count → getD old at 0 ≡ state)
+    → Put old count state (set old at state) at
+put-at old count state at size l upTo is =
+    record {
+      size = length-set old at state ∙ size;
+      upTo = upTo;
+      kept = λ i m.
+          by-test (eqb at i)
+          (λ e.
+          let z = eqb-true at i e in
+          subst (λ (x : ℕ). getD (set old at state) x 0 ≡ getD old x 0) z
+          (getD-set-same old at state 0 (omega arith) ∙ sym (is (omega arith))))
+          (λ e. let z = eqb-false at i e in getD-set-other old at i state 0 (λ q. z (sym q)));
+      here = λ m. getD-set-same old at state 0 (omega arith);
+    }
+
+pub put-none :
+    (old : List ℕ) (count state at : ℕ) → length old ≡ mostStates → at ≡ mostStates → at ≤ count
+    → Put old count state old at
+put-none old count state at size e upTo =
+    record {
+      size = size;
+      upTo = upTo;
+      kept = λ i m. refl;
+      here = λ m. absurd (omega arith);
+    }
+
+pub leads-by :
+    (states links : List ℕ) (count at v to : ℕ) → getD links (linkAt at v) 0 ≡ to → to < count
+    → getD states to 0 ≡ bitOr (getD states at 0) (2 ^ v)
+    → Leads states links count at v
+leads-by states links count at v to e l is =
+    record {
+      known = subst (λ (x : ℕ). x < count) (sym e) l;
+      is = ap (λ (x : ℕ). getD states x 0) e ∙ is;
+    }
+
+-- a link stays right where the states known by then stay, and the place of the link
+pub leads-kept :
+    (states links : List ℕ) (count at v : ℕ) (states' links' : List ℕ) (more : ℕ) → Leads states links count at v
+    → at < count → count ≤ more
+    → ((i : ℕ) → i < count → getD states' i 0 ≡ getD states i 0)
+    → getD links' (linkAt at v) 0 ≡ getD links (linkAt at v) 0
+    → Leads states' links' more at v
+leads-kept states links count at v states' links' more leads l m kept same =
+    let known = leads .known in
+    leads-by states' links' more at v (getD links (linkAt at v) 0) same (omega arith)
+    (kept (getD links (linkAt at v) 0) known ∙ leads .is ∙ ap (λ (x : ℕ). bitOr x (2 ^ v)) (sym (kept at l)))
+
+-- ## Linked variable by variable
+
+-- the same as once it is linked, of the variables that are not in `rest`
+pub record Linking (states links : List ℕ) (count at leave : ℕ) (states' links' : List ℕ) (more rest : ℕ) : Type 0 where
+  pub size : length states' ≡ mostStates
+  pub room : length links' ≡ mostLinks
+  pub from : count ≤ more
+  pub few : more ≤ mostStates
+  pub small : rest < 2 ^ mostVariables
+  pub kept : (i : ℕ) → i < count → getD states' i 0 ≡ getD states i 0
+  pub others : (place : ℕ) → place < linkAt at 0 → getD links' place 0 ≡ getD links place 0
+  pub leads : (v : ℕ) → bit leave v ≡ true → bit rest v ≡ false → Leads states' links' more at v
+
+module _ (states links : List ℕ) (count at leave : ℕ) where
+  pub linking-none :
+      length states ≡ mostStates → length links ≡ mostLinks → count ≤ mostStates → leave < 2 ^ mostVariables
+      → Linking states links count at leave states links count leave
+  linking-none size room few small =
+      record {
+        size = size;
+        room = room;
+        from = omega arith;
+        few = few;
+        small = small;
+        kept = λ i l. refl;
+        others = λ i l. refl;
+        leads = λ v t f. clash t f;
+      }
+
+  pub linked-all :
+      (states' links' : List ℕ) (more rest : ℕ) → rest ≡ 0
+      → Linking states links count at leave states' links' more rest
+      → Linked states links count at leave states' links' more
+  linked-all states' links' more rest e l =
+      record {
+        size = l .size;
+        room = l .room;
+        from = l .from;
+        kept = l .kept;
+        others = l .others;
+        leads = λ v t. l .leads v t (ap (λ (x : ℕ). bit x v) e ∙ bit-zero v);
+      }
+
+  module _ (states₁ links₁ : List ℕ) (more rest v from : ℕ)
+      (l : Linking states links count at leave states₁ links₁ more rest) (low : IsLowestBit 64 rest v) (known : at < count)
+      (is : from ≡ getD states at 0) where
+    pub small-variable : v < mostVariables
+    small-variable = low-bits rest mostVariables v (l .small) (low .here)
+
+    -- one variable more
+    pub linking-more :
+        (states₂ : List ℕ) (to more₂ : ℕ) → Put states₁ more (bitOr from (2 ^ v)) states₂ to → to < mostStates
+        → more ≤ more₂ → to + 1 ≤ more₂ → more₂ ≤ mostStates
+        → Linking states links count at leave states₂ (set links₁ (linkAt at v) to) more₂ (rest - oneIf (bit rest v) * 2 ^ v)
+    linking-more states₂ to more₂ put inside a b few =
+        let begun = l .from in
+        let most = l .few in
+        let size = l .room in
+        let small = l .small in
+        record {
+          size = put .size;
+          room = length-set links₁ (linkAt at v) to ∙ l .room;
+          from = omega arith;
+          few = few;
+          small = omega arith;
+          kept = kept;
+          others = λ place m.
+              getD-set-other links₁ (linkAt at v) place to 0 (λ q. omega arith) ∙ l .others place m;
+          leads = λ u t f. by-test (eqb v u) (here u) (there u t f);
+        }
+      where
+        kept : (i : ℕ) → i < count → getD states₂ i 0 ≡ getD states i 0
+        kept i m = let begun = l .from in put .kept i (omega arith) ∙ l .kept i m
+
+        here : (u : ℕ) → eqb v u ≡ true → Leads states₂ (set links₁ (linkAt at v) to) more₂ at u
+        here u e =
+            let below = small-variable in
+            let size = l .room in
+            let begun = l .from in
+            let most = l .few in
+            subst (Leads states₂ (set links₁ (linkAt at v) to) more₂ at) (eqb-true v u e)
+            (leads-by states₂ (set links₁ (linkAt at v) to) more₂ at v to
+            (getD-set-same links₁ (linkAt at v) to 0 (omega arith))
+            (omega arith)
+            (put .here inside ∙ ap (λ (x : ℕ). bitOr x (2 ^ v)) (is ∙ sym (kept at known))))
+
+        there :
+            (u : ℕ) → bit leave u ≡ true → bit (rest - oneIf (bit rest v) * 2 ^ v) u ≡ false → eqb v u ≡ false
+            → Leads states₂ (set links₁ (linkAt at v) to) more₂ at u
+        there u t f e =
+            let begun = l .from in
+            let z : bit rest u ≡ false =
+            sym (bit-without rest mostVariables v u (l .small) ∙ ap (λ (x : Bool). not x && bit rest u) e) ∙ f in
+            let other = eqb-false v u e in
+            leads-kept states₁ links₁ more at u states₂ (set links₁ (linkAt at v) to) more₂ (l .leads u t z) (omega arith) a
+            (put .kept)
+            (getD-set-other links₁ (linkAt at v) (linkAt at u) to 0 (λ q. other (omega arith)))
+
+-- ## All of them
+
+pub leaving-bound : (plan : List ℕ) (n state : ℕ) → n ≤ mostVariables → leavingBy plan n state < 2 ^ mostVariables
+unfolding leavingBy
+leaving-bound plan n state few = lt-of-lt-of-le (mask-bound (leavesBy plan state) n) (pow-mono few)
+
+module _ (plan : List ℕ) (n : ℕ) (few : n ≤ mostVariables) where
+  pub listed-none :
+      (states leaves links : List ℕ) → states ≡ replicate mostStates 0 → leaves ≡ replicate mostStates 0
+      → links ≡ replicate mostLinks 0
+      → Listed plan n states leaves links 1 0
+  listed-none states leaves links a b d =
+      record {
+        size = ap length a ∙ length-replicate {A = ℕ} mostStates 0;
+        wide = ap length b ∙ length-replicate {A = ℕ} mostStates 0;
+        room = ap length d ∙ length-replicate {A = ℕ} mostLinks 0;
+        some = omega arith;
+        few = omega arith;
+        first = ap (λ (x : List ℕ). getD x 0 0) a;
+        leaving = λ i l. absurd (omega arith);
+        leads = λ i v l. absurd (omega arith);
+      }
+
+  -- one state more is linked
+  pub listed-more :
+      (states leaves links : List ℕ) (count at leave : ℕ) (states' links' : List ℕ) (more : ℕ)
+      → Listed plan n states leaves links count at
+      → at < count
+      → leave ≡ leavingBy plan n (getD states at 0)
+      → Linked states links count at leave states' links' more
+      → more ≤ mostStates
+      → Listed plan n states' (set leaves at leave) links' more (at + 1)
+  listed-more states leaves links count at leave states' links' more listed known is linked most =
+      let some = listed .some in
+      let from = linked .from in
+      record {
+        size = linked .size;
+        wide = length-set leaves at leave ∙ listed .wide;
+        room = linked .room;
+        some = omega arith;
+        few = most;
+        first = linked .kept 0 some ∙ listed .first;
+        leaving = λ i l. by-order i at (λ m. before i m) (λ m. let z : at ≡ i = omega arith in subst (λ (x : ℕ). getD leaves' x 0 ≡ leavingBy plan n (getD states' x 0)) z here);
+        leads = λ i v l.
+            by-order i at
+            (λ m t.
+            let t' = sym (ap (λ (x : ℕ). bit x v) (same i m)) ∙ t in
+            let below = low-bits (getD leaves i 0) mostVariables v (small i m) t' in
+            leads-kept states links count i v states' links' more (listed .leads i v m t') (omega arith) from (linked .kept)
+            (linked .others (linkAt i v) (omega arith)))
+            (λ m t.
+            let z : at ≡ i = omega arith in
+            subst (λ (x : ℕ). Leads states' links' more x v) z
+            (linked .leads v (sym (ap (λ (x : ℕ). bit x v) (subst (λ (x : ℕ). getD leaves' x 0 ≡ leave) z new)) ∙ t)));
+      }
+    where
+      leaves' : List ℕ
+      leaves' = set leaves at leave
+
+      new : getD leaves' at 0 ≡ leave
+      new = let wide = listed .wide in let most' = listed .few in getD-set-same leaves at leave 0 (omega arith)
+
+      here : getD leaves' at 0 ≡ leavingBy plan n (getD states' at 0)
+      here = new ∙ is ∙ ap (leavingBy plan n) (sym (linked .kept at known))
+
+      same : (i : ℕ) → i < at → getD leaves' i 0 ≡ getD leaves i 0
+      same i m = getD-set-other leaves at i leave 0 (λ q. omega arith)
+
+      before : (i : ℕ) → i < at → getD leaves' i 0 ≡ leavingBy plan n (getD states' i 0)
+      before i m = same i m ∙ listed .leaving i m ∙ ap (leavingBy plan n) (sym (linked .kept i (omega arith)))
+
+      small : (i : ℕ) → i < at → getD leaves i 0 < 2 ^ mostVariables
+      small i m = subst (λ (x : ℕ). x < 2 ^ mostVariables) (sym (listed .leaving i m)) (leaving-bound plan n (getD states i 0) few)

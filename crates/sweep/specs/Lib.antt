@@ -1,0 +1,3 @@
+pub mod States
+pub mod Starts
+pub mod Floors
