@@ -20,7 +20,7 @@ pub struct Start {
     pub mark: u8,
     pub floor: usize,
     pub most: usize,
-    pub limit: usize,
+    pub limit: u32,
 }
 
 // A record that fires, and the variables that fire there.

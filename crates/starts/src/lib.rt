@@ -25,16 +25,16 @@ ghost use Rattle.sweep.specs.Floors.{Floor};
 ghost use Rattle.starts.specs.Skips.{Closed, Skipped, Branched, OpenTo, WindowIs, AllStarted, Passed};
 
 // The number of no record.
-const NO_RECORD: usize = records::MOST_RECORDS;
+const NO_RECORD: u32 = records::MOST_RECORDS as u32;
 
 // Where measure's counts stop (Rule 7.7).
 const MOST_COUNTED: usize = 4294967295;
 
 // How many branches a start takes before each is asked what it can still come to.
-const PATIENCE: usize = 64;
+const PATIENCE: u32 = 64;
 
 // How many branches a start takes before the block is looked at as a whole.
-const GIVE_UP: usize = 256;
+const GIVE_UP: u32 = 256;
 
 // Where counts stop: beyond any room.
 const STOP: usize = 18446744073709551615;
@@ -44,8 +44,8 @@ const STOP: usize = 18446744073709551615;
 pub struct Counts {
     pub used: usize,
     pub readings: usize,
-    pub least: usize,
-    pub steps: usize,
+    pub least: u32,
+    pub steps: u32,
 }
 
 // Where the readings of a start close, and their mark.
@@ -109,14 +109,15 @@ fn close(result: &mut [u8], slot: &[u8], s: reach::Start, counts: Counts) -> Cou
 
 // A reading would take a binding too many at record j: the least such record is kept.
 fn note_over(counts: Counts, j: usize) -> Counts
+    requires { ⌜ j ≤ mostRecords ⌝ }
     ensures { λ o. ⌜ (o .used ≡ counts .used) × (o .readings ≡ counts .readings)
         × (o .least ≡ min (counts .least) j) × (o .steps ≡ counts .steps) ⌝ }
 {
-    if j < counts.least {
+    if j < counts.least as usize {
         Counts {
             used: counts.used,
             readings: counts.readings,
-            least: j,
+            least: j as u32,
             steps: counts.steps,
         }
     } else {
@@ -189,7 +190,7 @@ fn may_exceed(
     ensures { λ r. ⌜ (r ≡ false → Above (now (plan .entry)) (now (block .entry)) s j (heldIn (now (slot .entry)) .bindings)
         (counts .least)) ⌝ }
 {
-    let end = smaller(s.until, counts.least);
+    let end = smaller(s.until, counts.least as usize);
     if end <= s.floor {
         return false;
     }
@@ -225,7 +226,7 @@ fn is_settled(
 }
 
 // One branch more, up to the limit.
-fn stepped(counts: Counts, limit: usize) -> Counts
+fn stepped(counts: Counts, limit: u32) -> Counts
     ensures { λ o. ⌜ (o .used ≡ counts .used) × (o .readings ≡ counts .readings) × (o .least ≡ counts .least)
         × (counts .steps ≤ o .steps) × (counts .steps ≤ limit → o .steps ≤ limit) ⌝ }
 {
@@ -379,7 +380,7 @@ fn window_at(block: &[u8], duration: u64, i: usize, opened: usize) -> Window
 
 // How many branches a start counts before its first: none, or as many as are taken before each is asked what it can
 // still come to, where a binding too many is known or the counts are told.
-fn first_steps(counts: Counts, room: usize, most: usize) -> usize
+fn first_steps(counts: Counts, room: usize, most: usize) -> u32
     ensures { λ r. ⌜ r ≤ patience ⌝ }
 {
     if counts.least < NO_RECORD {
@@ -392,7 +393,7 @@ fn first_steps(counts: Counts, room: usize, most: usize) -> usize
 }
 
 // The counts before a start's first branch.
-fn begun(counts: Counts, steps: usize) -> Counts
+fn begun(counts: Counts, steps: u32) -> Counts
     ensures { λ o. ⌜ o ≡ record { used = counts .used; readings = counts .readings; least = counts .least; steps = steps } ⌝ }
 {
     Counts {
@@ -415,7 +416,7 @@ fn each_start(
     cans: &[u16; records::MOST_RECORDS],
     floor: usize,
     most: usize,
-    limit: usize,
+    limit: u32,
     result: &mut [u8],
 ) -> Counts
     requires { ⌜ (Usable (now plan) (now block) n c) × (Cans (now plan) (now block) n c (now cans))
@@ -475,12 +476,13 @@ fn each_start(
 
 // The counts where all that matters is a binding too many at a record.
 fn decided(least: usize) -> Counts
+    requires { ⌜ least ≤ mostRecords ⌝ }
     ensures { λ o. ⌜ o ≡ record { used = 0; readings = 0; least = least; steps = 0 } ⌝ }
 {
     Counts {
         used: 0,
         readings: 0,
-        least,
+        least: least as u32,
         steps: 0,
     }
 }
@@ -542,7 +544,7 @@ fn finish(result: &mut [u8], counts: Counts) -> records::Answer
         × (now (result .exit) ≡ leftBy counts (now (result .entry))) ⌝ }
 {
     if counts.least < NO_RECORD {
-        return refuse(result, records::refusal(9, counts.least as u32));
+        return refuse(result, records::refusal(9, counts.least));
     }
     if result.len() / 2 < counts.used {
         return refuse(result, records::refusal(11, 0));
@@ -573,7 +575,7 @@ fn measured(counts: Counts) -> records::Answer
     ensures { λ a. ⌜ a ≡ measureBy counts ⌝ }
 {
     if counts.least < NO_RECORD {
-        return records::refusal(9, counts.least as u32);
+        return records::refusal(9, counts.least);
     }
     records::Answer {
         code: 0,

@@ -209,7 +209,12 @@ skip-count-of-requires t c κs =
     omega arith
 
 skip-note-over-requires : (t : ℕ) → skip-lts.Need-note-over-requires (of-skip t) (skip-at t) skip.Post
-skip-note-over-requires t c κs = search needs
+skip-note-over-requires t c κs =
+    let ready = c .before .before .before .before .before .before .before .before .before .before .before .before .before .before .pre .1 .0 .ready in
+    let records = ready .usable .records in
+    let block = ready .block in
+    let upTo = c .before .before .before .before .before .before .next-fire .ensures .upTo in
+    omega arith
 
 skip-returns-2 : (t : ℕ) → skip-lts.Need-returns-2 (of-skip t) (skip-at t) skip.Post
 skip-returns-2 t c =

@@ -5,9 +5,6 @@ use borrow.Author.Needs.{needs}
 use Rattle.starts.proofs.finish.Statement.{statement}
 use Rattle.starts.proofs.finish.Tie as tie
 
-cast-refusal : tie.Need-cast-refusal
-cast-refusal c = search needs
-
 refusal-requires : tie.Need-refusal-requires
 refusal-requires c κs = search needs
 
@@ -19,9 +16,9 @@ same-length c = search needs
 
 returns : tie.Need-returns
 returns c =
-    let a = c .before .before .before .before .before .before .before .before .before .args in
+    let a = c .before .before .before .before .before .before .before .before .args in
     let refuse = c .before .before .refuse in
-    finish-long (a .counts) (a .result .now) (c .before .before .before .before .before .before .if1 .taken) (refuse .result) (refuse .last .0) (refuse .ensures .0 ∙ c .before .before .before .refusal .ensures) (refuse .ensures .1)
+    finish-long (a .counts) (a .result .now) (c .before .before .before .before .before .if1 .taken) (refuse .result) (refuse .last .0) (refuse .ensures .0 ∙ c .before .before .before .refusal .ensures) (refuse .ensures .1)
 
 refusal-requires-2 : tie.Need-refusal-requires-2
 refusal-requires-2 c κs = search needs
@@ -57,7 +54,6 @@ pub finish-spec : {M : Type 1} → statement M
 finish-spec =
     tie.close
     (tie.spec
-    cast-refusal
     refusal-requires
     refuse-requires
     same-length

@@ -10,12 +10,15 @@ use Rattle.exceeds.proofs.can_exceed.Reads as can-exceed-reads
 use Rattle.exceeds.proofs.has_room.Reads as has-room-reads
 use Rattle.starts.proofs.smaller.Reads as smaller-reads
 
+cast-smaller : tie.Need-cast-smaller
+cast-smaller c = search needs
+
 smaller-requires : tie.Need-smaller-requires
 smaller-requires c κs = search needs
 
 returns : tie.Need-returns
 returns c =
-    let st = c .before .before .before .before .before in
+    let st = c .before .before .before .before .before .before in
     let a = st .args in
     let end = c .before .before .smaller in
     λ e. above-floor (a .plan .now) (a .block .now) (a .s) (a .slot .now) (a .j) (st .pre .0 .within) (end .result) (a .counts .least) (end .ensures) (c .if1 .taken) (st .pre .2)
@@ -25,7 +28,7 @@ has-room-requires c κs = search needs
 
 returns-2 : tie.Need-returns-2
 returns-2 c =
-    let st = c .before .before .before .before .before .before .before in
+    let st = c .before .before .before .before .before .before .before .before in
     let a = st .args in
     let end = c .before .before .before .before .smaller in
     λ e. above-none (a .plan .now) (a .block .now) (a .s) (a .slot .now) (a .j) (st .pre .0 .within) (end .result) (a .counts .least) (end .ensures) (c .before .has-room .ensures (not-true (c .before .has-room .result) (c .if2 .taken)) (a .plan .now) (a .block .now))
@@ -38,7 +41,7 @@ can-exceed-requires c κs = search needs
 
 returns-4 : tie.Need-returns-4
 returns-4 c =
-    let st = c .before .before .before .before .before .before .before .before .before .before in
+    let st = c .before .before .before .before .before .before .before .before .before .before .before in
     let a = st .args in
     let end = c .before .before .before .before .before .before .before .smaller in
     λ e. above-none (a .plan .now) (a .block .now) (a .s) (a .slot .now) (a .j) (st .pre .0 .within) (end .result) (a .counts .least) (end .ensures) (c .can-exceed .ensures e)
@@ -47,6 +50,7 @@ pub may-exceed-spec : {M : Type 1} → statement M
 may-exceed-spec =
     tie.close
     (tie.spec
+    cast-smaller
     smaller-requires
     returns
     has-room-requires

@@ -4,16 +4,13 @@ use borrow.Author.Needs.{needs}
 use Rattle.starts.proofs.measured.Statement.{statement}
 use Rattle.starts.proofs.measured.Tie as tie
 
-cast-refusal : tie.Need-cast-refusal
-cast-refusal c = search needs
-
 refusal-requires : tie.Need-refusal-requires
 refusal-requires c κs = search needs
 
 returns : tie.Need-returns
 returns c =
-    let a = c .before .before .before .before .args in
-    measured-long (a .counts) (c .before .before .if1 .taken) (c .refusal .result) (c .refusal .ensures)
+    let a = c .before .before .before .args in
+    measured-long (a .counts) (c .before .if1 .taken) (c .refusal .result) (c .refusal .ensures)
 
 capped-requires : tie.Need-capped-requires
 capped-requires c κs = search needs
@@ -29,4 +26,4 @@ returns-2 c =
 pub measured-spec : {M : Type 1} → statement M
 measured-spec =
     tie.close
-    (tie.spec cast-refusal refusal-requires returns capped-requires capped-requires-2 returns-2)
+    (tie.spec refusal-requires returns capped-requires capped-requires-2 returns-2)

@@ -85,7 +85,7 @@ sweep-requires c κs =
     (usable (a .p) (a .block .now) (plan .result) (st .pre .0) (st .pre .1) (plan .ensures), c .before .before .before .before .before .before .before .before .before .before .all-can .ensures)
 
 decided-requires : tie.Need-decided-requires
-decided-requires c κs = search needs
+decided-requires c κs = c .before .sweep .ensures .0 .few
 
 same-length-2 : tie.Need-same-length-2
 same-length-2 c = search needs
