@@ -176,3 +176,13 @@ module _ (plan bytes : List ℕ) (n c : ℕ) (few : n ≤ mostVariables) (cans :
       (leave : ℕ) → leave ≡ leavingBy plan n 0
       → bitAnd (getD cans i 0) leave ≡ firingBy plan bytes n c i (record { state = 0; bindings = [] })
   first-read leave e = ap₂ bitAnd (settled .each i inside) e ∙ firing-first plan bytes n c i 0
+
+-- one record more is passed
+pub passed-more :
+    (fires : ℕ → ℕ) (j i : ℕ) → fires i ≡ 0 → ((k : ℕ) → j ≤ k → k < i → fires k ≡ 0) → (k : ℕ) → j ≤ k → k < i + 1
+    → fires k ≡ 0
+passed-more fires j i none passed k from below =
+    ⊎-elim
+    (λ e. ap fires e ∙ none)
+    (λ l. passed k from l)
+    (eq-or-lt-of-le {n = k} {m = i} (omega arith))

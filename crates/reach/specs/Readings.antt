@@ -4,6 +4,7 @@ use mathlib.Core.Path.{_≡_}
 use mathlib.Core.Bool.{true, _&&_}
 use mathlib.Core.List.{List, List·Memᴰ}
 use Prim.Native.Nat.{ℕ, suc, _+_, _≤_, _<_}
+use lib.Bits.{bitAnd}
 use lib.ListN.{length, getD}
 use Rattle.numbers.specs.Bits.{bit, mask}
 use Rattle.records.specs.Records.{recordAt, recordCount, recordsOf}
@@ -61,6 +62,13 @@ pub record Ready (plan bytes : List ℕ) (s : Start) (slot : List ℕ) (j : ℕ)
   pub block : s .until ≤ recordCount bytes
   pub within : j ≤ s .until
   pub reads : Reads (s .n) j slot
+
+-- r is the next record from the first on, before the end, at which one of the variables can fire by its own conditions;
+-- the end where there is none
+pub record NextCan (cans : List ℕ) (variables first end r : ℕ) : Type 0 where
+  pub from : first ≤ r
+  pub upTo : r ≤ end
+  pub passed : (k : ℕ) → first ≤ k → k < r → bitAnd (getD cans k 0) variables ≡ 0
 
 -- f is the next record from j on that fires, and the variables that fire there; the record at which the reading closes,
 -- where none does

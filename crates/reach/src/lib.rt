@@ -1,13 +1,13 @@
 // What a reading can still come to: the variables that fire for it, and the next record at which one does.
 ghost use mathlib.Core.Path.{_≡_};
-ghost use Prim.Native.Nat.{_^_, _<_, _≤_};
-ghost use lib.ListN.{length, replicate};
+ghost use Prim.Native.Nat.{ℕ, _^_, _<_, _≤_};
+ghost use lib.ListN.{length, getD, replicate};
 ghost use Rattle.records.specs.Blocks.{mostRecords};
 ghost use Rattle.patterns.specs.Patterns.{mostVariables};
 ghost use Rattle.slots.specs.Slots.{heldIn};
 ghost use Rattle.firing.specs.Plan.{planRoom};
 ghost use Rattle.firing.specs.Firing.{Fit};
-ghost use Rattle.reach.specs.Readings.{leavingBy, agreeingBy, Cans, Usable, Ready, NextBy};
+ghost use Rattle.reach.specs.Readings.{leavingBy, agreeingBy, Cans, Usable, Ready, NextCan, NextBy};
 
 // What one start fixes: how many variables and conditions there are, and the duration; the record at which its readings
 // close, and their mark; a record before which none of them takes a binding too many, the number from which on counts
@@ -32,7 +32,7 @@ pub struct Fire {
 // ## Which variables fire
 
 // For each record no variable.
-fn no_cans() -> [u16; records::MOST_RECORDS]
+pub fn no_cans() -> [u16; records::MOST_RECORDS]
     ensures { λ r. ⌜ r ≡ replicate mostRecords 0 ⌝ }
 {
     [0; records::MOST_RECORDS]
@@ -44,18 +44,17 @@ pub fn all_can(
     n: usize,
     c: usize,
     block: &[u8],
-) -> [u16; records::MOST_RECORDS]
-    requires { ⌜ Usable (now plan) (now block) n c ⌝ }
-    ensures { λ r. ⌜ Cans (now (plan .entry)) (now (block .entry)) n c r ⌝ }
+    cans: &mut [u16; records::MOST_RECORDS],
+)
+    requires { ⌜ (Usable (now plan) (now block) n c) × (length (now cans) ≡ mostRecords) ⌝ }
+    ensures { λ r. ⌜ Cans (now (plan .entry)) (now (block .entry)) n c (now (cans .exit)) ⌝ }
 {
-    let mut cans = no_cans();
     let count = block.len() / records::RECORD_BYTES;
     let mut i = 0;
     while i < count {
         cans[i] = firing::can_fire(plan, n, c, block, i) as u16;
         i += 1;
     }
-    cans
 }
 
 // The variables that leave a state.
@@ -96,6 +95,22 @@ fn firing_of(
     firing
 }
 
+// The next record at which one of the variables can fire by its own conditions, or the end.
+fn next_can(cans: &[u16; records::MOST_RECORDS], variables: u64, from: usize, end: usize) -> usize
+    requires { ⌜ (from ≤ end) × (end ≤ mostRecords) × (length (now cans) ≡ mostRecords)
+        × ((i : ℕ) → i < end → getD (now cans) i 0 < 2 ^ mostVariables) ⌝ }
+    ensures { λ r. ⌜ NextCan (now (cans .entry)) variables from end r ⌝ }
+{
+    let mut i = from;
+    while i < end {
+        if cans[i] as u64 & variables != 0 {
+            return i;
+        }
+        i += 1;
+    }
+    i
+}
+
 // Skips to the next record from j on that fires; to the record at which the reading closes, where none does, and at once
 // where no variable leaves the reading's state.
 pub fn next_fire(
@@ -117,21 +132,16 @@ pub fn next_fire(
             variables: 0,
         };
     }
-    let mut i = j;
+    let mut i = next_can(cans, leave, j, s.until);
     while i < s.until {
-        let asked = cans[i] as u64 & leave;
-        if asked == 0 {
-            i += 1;
-            continue;
-        }
-        let firing = firing_of(block, plan, i, asked, slot);
+        let firing = firing_of(block, plan, i, cans[i] as u64 & leave, slot);
         if firing != 0 {
             return Fire {
                 at: i,
                 variables: firing,
             };
         }
-        i += 1;
+        i = next_can(cans, leave, i + 1, s.until);
     }
     Fire {
         at: i,

@@ -1,8 +1,8 @@
 -- `reach::all_can` meets its contract. The loop's invariant: the records passed are settled. Assumes nothing.
 use native.Mathlib.Omega.{arith}
-use mathlib.Core.Path.{_≡_, refl, ap, _∙_}
+use mathlib.Core.Path.{_≡_, refl, _∙_}
 use Prim.Native.Nat.{ℕ, _-_, _≤_, _<_}
-use lib.ListN.{length, getD, length-set, length-replicate}
+use lib.ListN.{length, getD, length-set}
 use lib.Pow.{pow-mono}
 use Rattle.records.specs.Records.{recordCount}
 use Rattle.records.specs.Blocks.{mostRecords}
@@ -19,34 +19,31 @@ Inv-loop plan n c block cans₀ count i₀ cans i = (i ≤ count) × (count ≡ 
 abbrev μ-loop : tie.MeasureT-loop
 μ-loop plan n c block cans₀ count i₀ cans i = count - i
 
-no-cans-requires : tie.Need-no-cans-requires Inv-loop μ-loop
-no-cans-requires c κs = search needs
-
 loop-holds : tie.Need-loop-holds Inv-loop μ-loop
-loop-holds c = (search needs, refl, ap length (c .no-cans .ensures) ∙ length-replicate {A = ℕ} mostRecords 0, λ k l. absurd (omega arith))
+loop-holds c = (search needs, refl, c .before .pre .1, λ k l. absurd (omega arith))
 
 can-fire-requires : tie.Need-can-fire-requires Inv-loop μ-loop
 can-fire-requires c κs =
-    let usable = c .before .before .before .before .pre in
+    let usable = c .before .before .before .pre .0 in
     let here = c .loop-test .taken in
     let is = c .before .loop .inv .1 in
     (usable .sound, usable .classed, usable .variables, usable .conditions, omega arith)
 
 cast-cans : tie.Need-cast-cans Inv-loop μ-loop
 cast-cans c =
-    let few = c .before .before .before .before .before .pre .variables in
-    omega (arith, c .can-fire .ensures .1, pow-mono {i = c .before .before .before .before .before .args .n} {j = mostVariables} few)
+    let few = c .before .before .before .before .pre .0 .variables in
+    omega (arith, c .can-fire .ensures .1, pow-mono {i = c .before .before .before .before .args .n} {j = mostVariables} few)
 
 mul-cans : tie.Need-mul-cans Inv-loop μ-loop
 mul-cans c =
-    let records = c .before .before .before .before .before .pre .records in
+    let records = c .before .before .before .before .pre .0 .records in
     let here = c .before .loop-test .taken in
     let is = c .before .before .loop .inv .1 in
     omega arith
 
-array-write-cans : tie.Need-array-write-cans Inv-loop μ-loop
-array-write-cans c =
-    let records = c .before .before .before .before .before .pre .records in
+element-write-cans : tie.Need-element-write-cans Inv-loop μ-loop
+element-write-cans c =
+    let records = c .before .before .before .before .pre .0 .records in
     let here = c .before .loop-test .taken in
     let is = c .before .before .loop .inv .1 in
     omega arith
@@ -59,10 +56,10 @@ loop-less c = search needs
 
 loop-again : tie.Need-loop-again Inv-loop μ-loop
 loop-again c =
-    let st = c .before .before .before .before .before in
+    let st = c .before .before .before .before in
     let a = st .args in
     let h = c .before .before .loop in
-    let records = st .pre .records in
+    let records = st .pre .0 .records in
     let here = c .before .loop-test .taken in (
       search needs,
       refl,
@@ -81,12 +78,11 @@ all-can-spec =
     (tie.spec
     Inv-loop
     μ-loop
-    no-cans-requires
     loop-holds
     can-fire-requires
     cast-cans
     mul-cans
-    array-write-cans
+    element-write-cans
     add-i
     loop-less
     loop-again

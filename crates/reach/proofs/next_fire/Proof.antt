@@ -1,15 +1,18 @@
 -- `reach::next_fire` meets its contract: no record before the one that it gives fires a step. Assumes nothing.
 use native.Mathlib.Omega.{arith}
-use native.Mathlib.Nat.{eq-or-lt-of-le}
 use mathlib.Core.Path.{_≡_, sym, ap, _∙_}
-use mathlib.Core.Logic.{⊎-elim}
-use Prim.Native.Nat.{ℕ, _+_, _-_, _≤_, _<_}
-use lib.Bits.{and-le-r}
-use lib.ListN.{getD}
+use mathlib.Core.List.{List}
+use Prim.Native.Nat.{ℕ, _+_, _-_, _^_, _≤_, _<_}
+use lib.Bits.{bitAnd, and-le-r}
+use lib.ListN.{length, getD}
+use Rattle.records.specs.Blocks.{mostRecords}
+use Rattle.patterns.specs.Patterns.{mostVariables}
 use Rattle.slots.specs.Slots.{heldIn}
-use Rattle.reach.specs.Readings.{firingBy, leavingBy}
+use Rattle.numbers.proofs.Cases.{by-order}
+use Rattle.reach.specs.declared.Start.{Start}
+use Rattle.reach.specs.Readings.{firingBy, leavingBy, Cans, Ready, NextCan}
 use Rattle.reach.proofs.Readings.{fit}
-use Rattle.reach.proofs.Masks.{read-bound, allowed-read, firing-read, none-read}
+use Rattle.reach.proofs.Masks.{read-bound, allowed-read, firing-read, none-read, passed-more}
 use borrow.Author.Needs.{needs}
 use Rattle.reach.proofs.next_fire.Statement.{statement}
 use Rattle.reach.proofs.next_fire.Tie as tie
@@ -20,15 +23,28 @@ Inv-loop block plan cans s j slot leave i₀ i = (j ≤ i) × (i ≤ s .until) �
 abbrev μ-loop : tie.MeasureT-loop
 μ-loop block plan cans s j slot leave i₀ i = s .until - i
 
--- one record more is passed
-passed-more :
-    (fires : ℕ → ℕ) (j i : ℕ) → fires i ≡ 0 → ((k : ℕ) → j ≤ k → k < i → fires k ≡ 0) → (k : ℕ) → j ≤ k → k < i + 1
-    → fires k ≡ 0
-passed-more fires j i none passed k from below =
-    ⊎-elim
-    (λ e. ap fires e ∙ none)
-    (λ l. passed k from l)
-    (eq-or-lt-of-le {n = k} {m = i} (omega arith))
+module _ (plan bytes : List ℕ) (s : Start) (slot : List ℕ) (j : ℕ) (ready : Ready plan bytes s slot j) (cans : List ℕ)
+    (settled : Cans plan bytes (s .n) (s .c) cans) where
+  -- what a search for the next record asks for
+  asked :
+      (from : ℕ) → from ≤ s .until
+      → (from ≤ s .until) × (s .until ≤ mostRecords) × (length cans ≡ mostRecords)
+      × ((i : ℕ) → i < s .until → getD cans i 0 < 2 ^ mostVariables)
+  asked from l =
+      let end = ready .block in
+      let few = ready .usable .records in
+      (l, omega arith, settled .size, λ i h. read-bound plan bytes (s .n) (s .c) (ready .usable .variables) cans settled i (omega arith))
+
+  -- the records that it passes fire nothing
+  more-passed :
+      (leave : ℕ) → leave ≡ leavingBy plan (s .n) (heldIn slot .state) → (from r : ℕ) → NextCan cans leave from (s .until) r
+      → ((k : ℕ) → j ≤ k → k < from → firingBy plan bytes (s .n) (s .c) k (heldIn slot) ≡ 0)
+      → (k : ℕ) → j ≤ k → k < r → firingBy plan bytes (s .n) (s .c) k (heldIn slot) ≡ 0
+  more-passed leave is from r next before k a b =
+      let end = ready .block in
+      let upTo = next .upTo in
+      by-order k from (before k a)
+      (λ l. none-read plan bytes (s .n) (s .c) (ready .usable .variables) cans settled k (omega arith) (heldIn slot) leave is (next .passed k l b))
 
 state-of-requires : tie.Need-state-of-requires Inv-loop μ-loop
 state-of-requires c κs = let size = c .before .before .pre .0 .reads .size in omega arith
@@ -56,66 +72,68 @@ returns c =
       some = λ l. absurd (omega arith);
     }
 
+next-can-requires : tie.Need-next-can-requires Inv-loop μ-loop
+next-can-requires c κs =
+    let st = c .before .before .before .before .before in
+    let a = st .args in
+    let ready = st .pre .0 in
+    let end = ready .block in
+    asked (a .plan .now) (a .block .now) (a .s) (a .slot .now) (a .j) ready (a .cans .now) (st .pre .1) (a .j) (ready .within)
+
 loop-holds : tie.Need-loop-holds Inv-loop μ-loop
 unfolding heldIn
 loop-holds c =
-    let st = c .before .before .before .before .before in
-    let a = st .args in (
-      search needs,
-      st .pre .0 .within,
-      c .before .leaving .ensures ∙ ap (leavingBy (a .plan .now) (a .s .n)) (c .before .before .state-of .ensures),
-      λ k x y. absurd (omega arith),
+    let st = c .before .before .before .before .before .before in
+    let a = st .args in
+    let ready = st .pre .0 in
+    let end = ready .block in
+    let leave = c .before .before .leaving in
+    let is : leave .result ≡ leavingBy (a .plan .now) (a .s .n) (heldIn (a .slot .now) .state) =
+    leave .ensures ∙ ap (leavingBy (a .plan .now) (a .s .n)) (c .before .before .before .state-of .ensures) in
+    let next = c .next-can in (
+      next .ensures .from,
+      next .ensures .upTo,
+      is,
+      more-passed (a .plan .now) (a .block .now) (a .s) (a .slot .now) (a .j) ready (a .cans .now) (st .pre .1) (leave .result) is (a .j) (next .result) (next .ensures) (λ k x y. absurd (omega arith)),
     )
 
-mul-asked : tie.Need-mul-asked Inv-loop μ-loop
-mul-asked c =
-    let ready = c .before .before .before .before .before .before .before .before .pre .0 in
-    let end = ready .block in
-    let records = ready .usable .records in
-    omega (arith, c .if2 .taken)
-
-element-copy-out-asked : tie.Need-element-copy-out-asked Inv-loop μ-loop
-element-copy-out-asked c =
-    let ready = c .before .before .before .before .before .before .before .before .pre .0 in
-    let end = ready .block in
-    let records = ready .usable .records in
-    omega (arith, c .if2 .taken)
-
-cast-asked : tie.Need-cast-asked Inv-loop μ-loop
-cast-asked c =
+mul-firing-of : tie.Need-mul-firing-of Inv-loop μ-loop
+mul-firing-of c =
     let st = c .before .before .before .before .before .before .before .before .before in
     let a = st .args in
     let ready = st .pre .0 in
     let end = ready .block in
-    let here = c .before .if2 .taken in
-    let small = read-bound (a .plan .now) (a .block .now) (a .s .n) (a .s .c) (ready .usable .variables) (a .cans .now) (st .pre .1) (c .before .before .before .loop .i) (omega arith) in
-    omega arith
+    let records = ready .usable .records in
+    omega (arith, c .if2 .taken)
 
-add-i : tie.Need-add-i Inv-loop μ-loop
-add-i c = search needs
+element-copy-out-firing-of : tie.Need-element-copy-out-firing-of Inv-loop μ-loop
+element-copy-out-firing-of c =
+    let st = c .before .before .before .before .before .before .before .before .before in
+    let a = st .args in
+    let ready = st .pre .0 in
+    let end = ready .block in
+    let records = ready .usable .records in
+    omega (arith, c .if2 .taken)
 
-loop-less : tie.Need-loop-less Inv-loop μ-loop
-loop-less c = search needs
-
-loop-again : tie.Need-loop-again Inv-loop μ-loop
-loop-again c =
+cast-firing-of : tie.Need-cast-firing-of Inv-loop μ-loop
+cast-firing-of c =
     let st = c .before .before .before .before .before .before .before .before .before .before in
     let a = st .args in
     let ready = st .pre .0 in
-    let h = c .before .before .before .before .loop in
     let end = ready .block in
-    let here = c .before .before .if2 .taken in
-    let none = none-read (a .plan .now) (a .block .now) (a .s .n) (a .s .c) (ready .usable .variables) (a .cans .now) (st .pre .1) (h .i) (omega arith) (heldIn (a .slot .now)) (c .before .before .before .before .before .before .leaving .result) (h .inv .2) (c .if3 .taken) in
-    (search needs, search needs, h .inv .2, passed-more (λ k. firingBy (a .plan .now) (a .block .now) (a .s .n) (a .s .c) k (heldIn (a .slot .now))) (a .j) (h .i) none (h .inv .3))
+    let h = c .before .before .before .loop in
+    let here = c .before .if2 .taken in
+    let small = read-bound (a .plan .now) (a .block .now) (a .s .n) (a .s .c) (ready .usable .variables) (a .cans .now) (st .pre .1) (h .i) (omega arith) in
+    omega arith
 
 firing-of-requires : tie.Need-firing-of-requires Inv-loop μ-loop
 firing-of-requires c κs =
     let st = c .before .before .before .before .before .before .before .before .before .before in
     let a = st .args in
     let ready = st .pre .0 in
-    let h = c .before .before .before .before .loop in
     let end = ready .block in
-    let here = c .before .before .if2 .taken in (
+    let h = c .before .before .before .loop in
+    let here = c .before .if2 .taken in (
       allowed-read (a .plan .now) (a .block .now) (a .s .n) (a .s .c) (ready .usable .variables) (a .cans .now) (st .pre .1) (h .i) (omega arith) (c .before .before .before .before .before .before .leaving .result),
       fit (a .plan .now) (a .block .now) (a .s .n) (a .s .c) (a .j) (a .slot .now) (ready .usable) (ready .reads) (h .i) (h .inv .0) (omega arith),
     )
@@ -125,9 +143,9 @@ returns-2 c =
     let st = c .before .before .before .before .before .before .before .before .before .before .before .before in
     let a = st .args in
     let ready = st .pre .0 in
-    let h = c .before .before .before .before .before .before .loop in
     let end = ready .block in
-    let here = c .before .before .before .before .if2 .taken in
+    let h = c .before .before .before .before .before .loop in
+    let here = c .before .before .before .if2 .taken in
     record {
       from = h .inv .0;
       upTo = h .inv .1;
@@ -135,26 +153,58 @@ returns-2 c =
       here = λ l.
           c .before .firing-of .ensures
           ∙ firing-read (a .plan .now) (a .block .now) (a .s .n) (a .s .c) (ready .usable .variables) (a .cans .now) (st .pre .1) (h .i) (omega arith) (heldIn (a .slot .now)) (c .before .before .before .before .before .before .before .before .leaving .result) (h .inv .2);
-      some = λ l. omega (arith, c .if4 .taken);
+      some = λ l. omega (arith, c .if3 .taken);
     }
 
-add-i-2 : tie.Need-add-i-2 Inv-loop μ-loop
-add-i-2 c = search needs
-
-loop-less-2 : tie.Need-loop-less-2 Inv-loop μ-loop
-loop-less-2 c = search needs
-
-loop-again-2 : tie.Need-loop-again-2 Inv-loop μ-loop
-loop-again-2 c =
+add-next-can : tie.Need-add-next-can Inv-loop μ-loop
+add-next-can c =
     let st = c .before .before .before .before .before .before .before .before .before .before .before .before in
     let a = st .args in
     let ready = st .pre .0 in
-    let h = c .before .before .before .before .before .before .loop in
     let end = ready .block in
+    let h = c .before .before .before .before .before .loop in
+    let records = ready .usable .records in
+    let here = c .before .before .before .if2 .taken in
+    omega arith
+
+next-can-requires-2 : tie.Need-next-can-requires-2 Inv-loop μ-loop
+next-can-requires-2 c κs =
+    let st = c .before .before .before .before .before .before .before .before .before .before .before .before in
+    let a = st .args in
+    let ready = st .pre .0 in
+    let end = ready .block in
+    let h = c .before .before .before .before .before .loop in
+    let here = c .before .before .before .if2 .taken in
+    asked (a .plan .now) (a .block .now) (a .s) (a .slot .now) (a .j) ready (a .cans .now) (st .pre .1) (h .i + 1) (omega arith)
+
+loop-less : tie.Need-loop-less Inv-loop μ-loop
+loop-less c =
+    let next = c .next-can2 .ensures .from in
+    let h = c .before .before .before .before .before .before .loop in
     let here = c .before .before .before .before .if2 .taken in
-    let read = firing-read (a .plan .now) (a .block .now) (a .s .n) (a .s .c) (ready .usable .variables) (a .cans .now) (st .pre .1) (h .i) (omega arith) (heldIn (a .slot .now)) (c .before .before .before .before .before .before .before .before .leaving .result) (h .inv .2) in
-    let none = sym read ∙ sym (c .before .firing-of .ensures) ∙ c .if4 .left in
-    (search needs, search needs, h .inv .2, passed-more (λ k. firingBy (a .plan .now) (a .block .now) (a .s .n) (a .s .c) k (heldIn (a .slot .now))) (a .j) (h .i) none (h .inv .3))
+    let upTo = c .next-can2 .ensures .upTo in
+    omega arith
+
+loop-again : tie.Need-loop-again Inv-loop μ-loop
+loop-again c =
+    let st = c .before .before .before .before .before .before .before .before .before .before .before .before .before in
+    let a = st .args in
+    let ready = st .pre .0 in
+    let end = ready .block in
+    let h = c .before .before .before .before .before .before .loop in
+    let here = c .before .before .before .before .if2 .taken in
+    let next = c .next-can2 in
+    let leave = c .before .before .before .before .before .before .before .before .before .leaving .result in
+    let read = firing-read (a .plan .now) (a .block .now) (a .s .n) (a .s .c) (ready .usable .variables) (a .cans .now) (st .pre .1) (h .i) (omega arith) (heldIn (a .slot .now)) leave (h .inv .2) in
+    let none = sym read ∙ sym (c .before .before .firing-of .ensures) ∙ c .before .if3 .left in
+    let from = next .ensures .from in
+    let start = h .inv .0 in (
+      omega arith,
+      next .ensures .upTo,
+      h .inv .2,
+      more-passed (a .plan .now) (a .block .now) (a .s) (a .slot .now) (a .j) ready (a .cans .now) (st .pre .1) leave (h .inv .2) (h .i + 1) (next .result) (next .ensures)
+          (passed-more (λ k. firingBy (a .plan .now) (a .block .now) (a .s .n) (a .s .c) k (heldIn (a .slot .now))) (a .j) (h .i) none (h .inv .3)),
+    )
 
 returns-3 : tie.Need-returns-3 Inv-loop μ-loop
 returns-3 c =
@@ -176,16 +226,15 @@ next-fire-spec =
     state-of-requires
     leaving-requires
     returns
+    next-can-requires
     loop-holds
-    mul-asked
-    element-copy-out-asked
-    cast-asked
-    add-i
-    loop-less
-    loop-again
+    mul-firing-of
+    element-copy-out-firing-of
+    cast-firing-of
     firing-of-requires
     returns-2
-    add-i-2
-    loop-less-2
-    loop-again-2
+    add-next-can
+    next-can-requires-2
+    loop-less
+    loop-again
     returns-3)
