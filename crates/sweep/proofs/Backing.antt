@@ -189,7 +189,7 @@ module _ (plan bytes : List ℕ) (n c duration : ℕ) (usable : Usable plan byte
             (k at : ℕ) → k ≤ mostBindings → at < mostStates → low < getD new (placeOf k at) 0
             → Came begun leaves links count can low tight k at (getD new (placeOf k at) 0)
         unfolding begun
-        came-begun k at a b late = advanced .came k at (omega arith) a b late
+        came-begun k at a b late = advanced .came k at a (omega arith) late
 
         -- a record that moves the starts on
         pub backed-moved : Backed plan bytes n c duration tight states count new (j + 1)

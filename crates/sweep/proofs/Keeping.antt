@@ -57,6 +57,7 @@ listed-inside plan n states leaves links count listed =
       room = listed .room;
       few = listed .few;
       known = λ i v l t. let k = listed .leads i v l t .known in let few = listed .few in omega arith;
+      onward = λ i v l t. listed .leads i v l t .onward;
     }
 
 module _ (plan bytes : List ℕ) (n c duration : ℕ) (usable : Usable plan bytes n c) (tight : Bool)
@@ -226,14 +227,13 @@ module _ (plan bytes : List ℕ) (n c duration : ℕ) (usable : Usable plan byte
             let fires = fires-leave (h .at) v (f .0) in
             let leads = listed .leads (h .at) v (h .known) fires in
             let late = h .late in
-            let up = moved .here k (h .at) v (omega arith) fewer (h .known) (f .1) (f .0) in
+            let up = moved .here k (h .at) v fewer (omega arith) (h .known) (f .1) (f .0) in
             let to : ℕ = getD links (linkAt (h .at) v) 0 in
-            let place : placeOf (suc k) 0 + to ≡ placeOf (suc k) to = omega arith in
             record {
               at = to;
               known = leads .known;
               is = leads .is ∙ ap (λ (x : ℕ). bitOr x (2 ^ v)) (h .is);
-              late = subst (λ (x : ℕ). i < getD new x 0) place (omega arith);
+              late = omega arith;
             }
           where
             fires-leave : (at v : ℕ) → bit (bitAnd can (getD leaves at 0)) v ≡ true → bit (getD leaves at 0) v ≡ true
@@ -260,14 +260,14 @@ module _ (plan bytes : List ℕ) (n c duration : ℕ) (usable : Usable plan byte
             leave = listed .leaving (h .at) (h .known) ∙ ap (leavingBy plan n) (h .is)
 
         held-waited :
-            (i k state : ℕ) → (tight ≡ true → (v : ℕ) → Steps plan bytes n c j state v → ⊥)
+            (i k state : ℕ) → k ≤ mostBindings → (tight ≡ true → (v : ℕ) → Steps plan bytes n c j state v → ⊥)
             → HeldAt states count begun i k state
             → HeldAt states count new i k state
         unfolding begun
-        held-waited i k state none h =
+        held-waited i k state most none h =
             let few = listed .few in
             let known = h .known in
-            let up = moved .stays k (h .at) (omega arith) (omega arith) (λ t. quiet i k state (none t) h) in
+            let up = moved .stays k (h .at) most (omega arith) (λ t. quiet i k state (none t) h) in
             let late = h .late in
             record { at = h .at; known = h .known; is = h .is; late = omega arith }
 
@@ -284,7 +284,7 @@ module _ (plan bytes : List ℕ) (n c duration : ℕ) (usable : Usable plan byte
         held-after i k state some (begins a b e) = absurd (omega arith)
         held-after i k state some (waits b e s opened none comes) =
             let z : b ≡ j = omega arith in
-            held-waited i k state
+            held-waited i k state (kept .few i k state j (omega arith) (subst (Could i k state) z comes))
             (λ t v steps. none t v (subst (λ (x : ℕ). Steps plan bytes n c x state v) (sym z) steps))
             (held-begun i k state (subst (Could i k state) z comes))
         held-after i k state some (takes b v l s e g h opened steps comes) =
