@@ -2,8 +2,8 @@
 -- is a floor. Assumes nothing.
 use mathlib.Core.Path.{_≡_, refl, sym, ap, subst, _∙_}
 use mathlib.Core.Bool.{Bool, true, false, _&&_}
-use mathlib.Core.List.{List, List·Memᴰ}
-use Prim.Native.Nat.{ℕ, zero, suc, _+_, _-_, _^_, _≤_, _<_}
+use mathlib.Core.List.{List}
+use Prim.Native.Nat.{ℕ, suc, _+_, _-_, _^_, _≤_, _<_}
 use native.Mathlib.Nat.{lt-of-le-of-lt}
 use native.Mathlib.Numerals.{add-one}
 use native.Mathlib.Omega.{arith}
@@ -13,23 +13,21 @@ use lib.Seq.{getD-set-same, getD-set-other}
 use Rattle.numbers.specs.Bits.{bit}
 use Rattle.numbers.proofs.Cases.{by-test, by-order}
 use Rattle.numbers.proofs.Bits.{bit-zero, bit-and}
-use Rattle.records.specs.Records.{recordAt, recordCount, recordsOf, eventKind}
+use Rattle.records.specs.Records.{recordAt, eventKind}
 use Rattle.records.specs.Blocks.{mostRecords}
-use Rattle.patterns.specs.declared.Pattern.{Pattern}
 use Rattle.patterns.specs.Patterns.{mostVariables}
 use Rattle.automaton.proofs.Membership.{clash}
 use Rattle.rule.specs.Promises.{mostBindings}
 use Rattle.rule.specs.Starts.Found.{over}
-use Rattle.rule.specs.Starts.{foundAll}
 use Rattle.firing.specs.Firing.{canBy}
-use Rattle.reach.specs.Readings.{leavingBy, Usable, Of}
-use Rattle.sweep.specs.States.{mostStates, linkAt, Listed, Inside}
+use Rattle.reach.specs.Readings.{leavingBy, Usable}
+use Rattle.sweep.specs.States.{linkAt, Listed, Inside}
 use Rattle.sweep.specs.Starts.{placeOf, mostPlaces, IsOver, Advanced}
 use Rattle.sweep.specs.Floors.{Past, Open, Steps, Comes, Free, Floor}
 use Rattle.sweep.specs.Floors.Comes.{begins, waits, takes}
 use Rattle.sweep.proofs.States.{leaving-bound}
 use Rattle.sweep.proofs.Starts.{and-left, and-right, no-bits}
-use Rattle.sweep.proofs.Coming.{OverBy, all-overs}
+use Rattle.sweep.proofs.Coming.{all-overs}
 
 -- the starts hold a reading's start, for its state and count of bindings
 pub record HeldAt (states : List ℕ) (count : ℕ) (starts : List ℕ) (i k state : ℕ) : Type 0 where
@@ -89,7 +87,9 @@ module _ (plan bytes : List ℕ) (n c duration : ℕ) (usable : Usable plan byte
     none-before i k state m l (waits b e some opened none comes) = absurd (omega arith)
     none-before i k state m l (takes b v s t e g h opened steps comes) = absurd (omega arith)
 
-    pub kept-none : (starts : List ℕ) → starts ≡ replicate mostPlaces 0 → Kept plan bytes n c duration tight states count starts 0
+    pub kept-none :
+        (starts : List ℕ) → starts ≡ replicate mostPlaces 0
+        → Kept plan bytes n c duration tight states count starts 0
     kept-none starts e =
         record {
           size = ap length e ∙ length-replicate {A = ℕ} mostPlaces 0;

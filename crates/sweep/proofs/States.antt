@@ -1,11 +1,10 @@
 -- The list of states as it grows: a state put into it, one that is linked variable by variable, and all of them.
 -- Assumes nothing.
-use mathlib.Core.Path.{_≡_, refl, sym, ap, ap₂, subst, _∙_}
+use mathlib.Core.Path.{_≡_, refl, sym, ap, subst, _∙_}
 use mathlib.Core.Bool.{Bool, true, false, not, _&&_}
 use mathlib.Core.List.{List}
-use mathlib.Core.Logic.{⊎-elim}
-use Prim.Native.Nat.{ℕ, zero, suc, _+_, _-_, _*_, _^_, _≤_, _<_}
-use native.Mathlib.Nat.{eq-or-lt-of-le, lt-of-lt-of-le}
+use Prim.Native.Nat.{ℕ, _+_, _-_, _*_, _^_, _≤_, _<_}
+use native.Mathlib.Nat.{lt-of-lt-of-le}
 use native.Mathlib.Omega.{arith}
 use lib.Bits.{bitOr}
 use lib.Dec.{eqb}
@@ -123,7 +122,8 @@ module _ (states links : List ℕ) (count at leave : ℕ) where
       }
 
   module _ (states₁ links₁ : List ℕ) (more rest v from : ℕ)
-      (l : Linking states links count at leave states₁ links₁ more rest) (low : IsLowestBit 64 rest v) (known : at < count)
+      (l : Linking states links count at leave states₁ links₁ more rest) (low : IsLowestBit 64 rest v)
+      (known : at < count)
       (is : from ≡ getD states at 0) where
     pub small-variable : v < mostVariables
     small-variable = low-bits rest mostVariables v (l .small) (low .here)
@@ -133,7 +133,8 @@ module _ (states links : List ℕ) (count at leave : ℕ) where
         (states₂ : List ℕ) (to more₂ : ℕ) → Put states₁ more (bitOr from (2 ^ v)) states₂ to → to < mostStates
         → at ≤ to
         → more ≤ more₂ → to + 1 ≤ more₂ → more₂ ≤ mostStates
-        → Linking states links count at leave states₂ (set links₁ (linkAt at v) to) more₂ (rest - oneIf (bit rest v) * 2 ^ v)
+        → Linking states links count at leave states₂ (set links₁ (linkAt at v) to) more₂
+        (rest - oneIf (bit rest v) * 2 ^ v)
     linking-more states₂ to more₂ put inside up a b few =
         let begun = l .from in
         let most = l .few in

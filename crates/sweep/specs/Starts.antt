@@ -2,7 +2,6 @@
 -- where there is none: a list, state by state. What one record does to it. No promise of a public call names this file.
 use mathlib.Core.Path.{_≡_}
 use mathlib.Core.Bool.{Bool, true, false}
-use mathlib.Core.Logic.{_⊎_}
 use mathlib.Core.List.{List}
 use Prim.Native.Nat.{ℕ, suc, _+_, _*_, _≤_, _<_}
 use lib.Bits.{bitAnd}
@@ -27,7 +26,8 @@ mostPlaces = placeOf 0 mostStates
 -- the starts of a state, those up to `low` as 0
 pub record LateOnes (starts : List ℕ) (low at : ℕ) (own : List ℕ) : Type 0 where
   pub size : length own ≡ rowPlaces
-  pub late : (k : ℕ) → k ≤ mostBindings → low < getD starts (placeOf k at) 0 → getD own k 0 ≡ getD starts (placeOf k at) 0
+  pub late :
+      (k : ℕ) → k ≤ mostBindings → low < getD starts (placeOf k at) 0 → getD own k 0 ≡ getD starts (placeOf k at) 0
   pub out : (k : ℕ) → k ≤ mostBindings → getD starts (placeOf k at) 0 ≤ low → getD own k 0 ≡ 0
 
 -- a place is what it was, or with `tight` a place of the state that is cleared
@@ -42,13 +42,6 @@ pub record RowCleared (old : List ℕ) (tight : Bool) (at : ℕ) (new : List ℕ
   pub size : length new ≡ length old
   pub only : (place : ℕ) → Cleared old tight at new place
   pub gone : tight ≡ true → (k : ℕ) → k < done → getD new (placeOf k at) 0 ≡ 0
-
--- a place has a start now, if it was less
-pub record Raised (old : List ℕ) (at start : ℕ) (new : List ℕ) : Type 0 where
-  pub size : length new ≡ length old
-  pub above : (place : ℕ) → getD old place 0 ≤ getD new place 0
-  pub here : start ≤ getD new at 0
-  pub only : (place : ℕ) → (getD new place 0 ≡ getD old place 0) ⊎ ((place ≡ at) × (getD new place 0 ≡ start))
 
 -- a place is what it was, or it has one of the starts, for one binding more in state `to`
 pub data Grown (old own : List ℕ) (to : ℕ) (new : List ℕ) (place : ℕ) : Type 0 where

@@ -149,6 +149,14 @@ fn list_states(
 
 // ## The latest starts
 
+// For each state and each count of bindings one more than the latest start of a reading that could have them, 0 where
+// there is none. This is none at all.
+fn no_starts() -> [u16; MOST_PLACES]
+    ensures { λ r. ⌜ r ≡ replicate mostPlaces 0 ⌝ }
+{
+    [0; MOST_PLACES]
+}
+
 // The larger of two.
 fn later(a: u16, b: u16) -> u16
     ensures { λ r. ⌜ (a ≤ r) × (b ≤ r) × ((r ≡ a) ⊎ (r ≡ b)) ⌝ }
@@ -308,8 +316,8 @@ fn advance(
     }
 }
 
-// A record that can be bound: it may begin readings, and each state leads on. Whether a reading could take a binding too
-// many there; if so nothing has moved.
+// A record that can be bound: it may begin readings, and each state leads on. Whether a reading could take a binding
+// too many there; if so nothing has moved.
 fn is_over_at(
     starts: &mut [u16; MOST_PLACES],
     leaves: &[u64; MOST_STATES],
@@ -334,12 +342,6 @@ fn is_over_at(
 }
 
 // ## The sweep
-
-fn no_starts() -> [u16; MOST_PLACES]
-    ensures { λ r. ⌜ r ≡ replicate mostPlaces 0 ⌝ }
-{
-    [0; MOST_PLACES]
-}
 
 // Whether a time is more than the duration after the first.
 fn is_past(first: u64, duration: u64, time: u64) -> bool

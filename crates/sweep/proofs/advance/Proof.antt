@@ -3,7 +3,7 @@ use native.Mathlib.Omega.{arith}
 use mathlib.Core.Path.{_≡_, subst, _∙_}
 use Prim.Native.Nat.{_≤_}
 use Rattle.sweep.specs.Starts.{Advanced}
-use Rattle.sweep.proofs.Starts.{advanced-none, advanced-more}
+use Rattle.sweep.proofs.Advancing.{advanced-none, advanced-more}
 use borrow.Author.Needs.{needs}
 use Rattle.sweep.proofs.advance.Statement.{statement}
 use Rattle.sweep.proofs.advance.Tie as tie

@@ -2,7 +2,6 @@
 use native.Mathlib.Omega.{arith}
 use mathlib.Core.Path.{refl}
 use mathlib.Core.Logic.{inl, inr}
-use borrow.Author.Needs.{needs}
 use Rattle.sweep.proofs.later.Statement.{statement}
 use Rattle.sweep.proofs.later.Tie as tie
 

@@ -1,4 +1,5 @@
--- `sweep::raise_row` meets its contract. The loop's invariant: the counts of bindings passed are raised. Assumes nothing.
+-- `sweep::raise_row` meets its contract. The loop's invariant: the counts of bindings passed are raised.
+-- Assumes nothing.
 use native.Mathlib.Omega.{arith}
 use mathlib.Core.Path.{_≡_, subst, _∙_}
 use Prim.Native.Nat.{_-_, _≤_}

@@ -1,7 +1,7 @@
 -- `sweep::spread` meets its contract. The loop's invariant: the states that the variables not left lead to are raised.
 -- Assumes nothing.
 use native.Mathlib.Omega.{arith}
-use mathlib.Core.Path.{_≡_, _∙_}
+use mathlib.Core.Path.{_∙_}
 use Rattle.reach.proofs.MaskInTurn.{rest-less}
 use Rattle.sweep.proofs.Starts.{Spreading, spreading-none, spreading-more, spread-all, spread-variable}
 use Rattle.sweep.proofs.Starts.{spread-fires}
