@@ -1,13 +1,13 @@
 -- Each of the latest starts is that of a reading that comes by own conditions alone, record by record, and so where no
 -- condition joins variables one takes a binding too many at the record at which the sweep ends. Assumes nothing.
 use mathlib.Core.Path.{_≡_, refl, sym, ap, ap₂, subst, _∙_}
-use mathlib.Core.Bool.{Bool, true, false, _&&_}
+use mathlib.Core.Bool.{Bool, true, _&&_}
 use mathlib.Core.List.{List}
-use Prim.Native.Nat.{ℕ, zero, suc, _+_, _-_, _^_, _≤_, _<_}
+use Prim.Native.Nat.{ℕ, suc, _+_, _-_, _^_, _≤_, _<_}
 use native.Mathlib.Nat.{lt-of-le-of-lt}
 use native.Mathlib.Numerals.{add-one}
 use native.Mathlib.Omega.{arith}
-use lib.Bits.{bitAnd, bitOr, and-le-r}
+use lib.Bits.{bitAnd, and-le-r}
 use lib.ListN.{length, getD, set, replicate, getD-replicate}
 use lib.Seq.{getD-set-same, getD-set-other}
 use Rattle.numbers.specs.Bits.{bit}
@@ -18,11 +18,11 @@ use Rattle.patterns.specs.Patterns.{mostVariables}
 use Rattle.automaton.proofs.Membership.{clash}
 use Rattle.rule.specs.Promises.{mostBindings}
 use Rattle.firing.specs.Firing.{canBy}
-use Rattle.reach.specs.Readings.{leavingBy, Usable}
-use Rattle.sweep.specs.States.{mostStates, linkAt, Listed}
+use Rattle.reach.specs.Readings.{Usable}
+use Rattle.sweep.specs.States.{mostStates, Listed}
 use Rattle.sweep.specs.Starts.{placeOf, mostPlaces, SomeOver, Came, Advanced}
 use Rattle.sweep.specs.Starts.Came.{stayed, moved}
-use Rattle.sweep.specs.Floors.{Past, Open, Steps, Comes, Free, Reached, FirstOpen}
+use Rattle.sweep.specs.Floors.{Open, Steps, Comes, Free, Reached, FirstOpen}
 use Rattle.sweep.specs.Floors.Comes.{begins, waits, takes}
 use Rattle.sweep.proofs.States.{leaving-bound}
 use Rattle.sweep.proofs.Starts.{and-left, and-right, some-bit}
@@ -35,7 +35,8 @@ Near bytes duration i m = recordAt bytes m .time ≤ recordAt bytes i .time + du
 
 -- the start of a place, but that of no bindings in their state, is one of a reading that comes there before record j,
 -- while its window has a record yet
-pub record From (plan bytes : List ℕ) (n c duration : ℕ) (tight : Bool) (states : List ℕ) (count i k at j : ℕ) : Type 0 where
+pub record From (plan bytes : List ℕ) (n c duration : ℕ) (tight : Bool) (states : List ℕ)
+    (count i k at j : ℕ) : Type 0 where
   pub some : 0 < k
   pub known : at < count
   pub comes : Comes plan bytes n c duration tight i k (getD states at 0) j
@@ -103,7 +104,8 @@ module _ (plan bytes : List ℕ) (n c duration : ℕ) (usable : Usable plan byte
     begun-first size = getD-set-same starts 0 (j + 1) 0 (omega arith)
 
     begun-early :
-        length starts ≡ mostPlaces → (k at : ℕ) → k ≤ mostBindings → at < mostStates → getD begun (placeOf k at) 0 ≤ j + 1
+        length starts ≡ mostPlaces → (k at : ℕ) → k ≤ mostBindings → at < mostStates
+        → getD begun (placeOf k at) 0 ≤ j + 1
     begun-early size k at a b =
         by-order 0 (k + at)
         (λ l. let same = begun-other k at l in let e = backed .early k at a b in omega arith)
@@ -189,7 +191,7 @@ module _ (plan bytes : List ℕ) (n c duration : ℕ) (usable : Usable plan byte
             (k at : ℕ) → k ≤ mostBindings → at < mostStates → low < getD new (placeOf k at) 0
             → Came begun leaves links count can low tight k at (getD new (placeOf k at) 0)
         unfolding begun
-        came-begun k at a b late = advanced .came k at (omega arith) a b late
+        came-begun k at a b late = advanced .came k at a (omega arith) late
 
         -- a record that moves the starts on
         pub backed-moved : Backed plan bytes n c duration tight states count new (j + 1)

@@ -1,10 +1,9 @@
 -- All that the rule finds of a binding too many comes by own conditions alone. Assumes nothing.
 use mathlib.Core.Path.{_≡_, refl, sym, ap, ap₂, subst, _∙_}
-use mathlib.Core.Bool.{Bool, true, false, _&&_}
+use mathlib.Core.Bool.{Bool, true, _&&_}
 use mathlib.Core.List.{List, [], _∷_, List·Memᴰ, List·Memᴰ·head, List·Memᴰ·tail, List·Memᴰ·not-nil}
-use Prim.Native.Nat.{ℕ, zero, suc, _+_, _-_, _^_, _≤_, _<_}
+use Prim.Native.Nat.{ℕ, zero, suc, _+_, _-_, _≤_, _<_}
 use native.Mathlib.Omega.{arith}
-use lib.Bits.{bitOr}
 use lib.ListN.{length}
 use borrow.Author.Tests.{lt-ltb}
 use Rattle.numbers.specs.Numbers.{upto}
@@ -25,7 +24,8 @@ use Rattle.rule.specs.Computed.{isEvent}
 use Rattle.rule.specs.Starts.Found.{closed, over}
 use Rattle.rule.specs.Starts.{anyFires, close, until, markOf, withBinding, skipUntil, startFound, foundFrom, foundAll}
 use Rattle.rule.proofs.LiveReadings.{fires-variable}
-use Rattle.rule.proofs.SkipBranch.{any-fires, fires-none, mem-turn, close-full, close-part, skip-passes, skip-closes, skip-takes}
+use Rattle.rule.proofs.SkipBranch.{any-fires, fires-none, mem-turn, close-full, close-part, skip-passes, skip-closes}
+use Rattle.rule.proofs.SkipBranch.{skip-takes}
 use Rattle.rule.proofs.SkipBranch.{skip-over, start-event, start-gap, until-after}
 use Rattle.slots.specs.Slots.{Held, holding, grow}
 use Rattle.slots.proofs.Holding.{holding-grow}
@@ -33,7 +33,6 @@ use Rattle.firing.specs.Plan.{conditionIn, marksIn, joinsIn}
 use Rattle.firing.specs.Firing.{canBy, leavesBy, laterThan, laterBy, pairHolds, joinHolds, joinsBy, firesBy, ReadBelow}
 use Rattle.firing.proofs.FiresBy.{fires-by}
 use Rattle.reach.specs.Readings.{leavingBy, Usable, Of}
-use Rattle.reach.specs.Growing.{Grows}
 use Rattle.reach.specs.Growing.Grows.{here, takes as grown}
 use Rattle.reach.proofs.MaskInTurn.{low-bits}
 use Rattle.reach.proofs.Growing.{fires-in, grows-below}
@@ -136,7 +135,8 @@ module _ (p : Pattern) (plan bytes : List ℕ) (n c duration : ℕ) (o : Of p pl
     pub comes-more :
         (i : ℕ) (q : Reading) (j v : ℕ) → ReadBelow p j q → Open bytes duration i j → fires p B q v j ≡ true
         → Comes plan bytes n c duration tight i (length q) (holding q .state) j
-        → Comes plan bytes n c duration tight i (length (withBinding q v j)) (holding (withBinding q v j) .state) (suc j)
+        → Comes plan bytes n c duration tight i (length (withBinding q v j)) (holding (withBinding q v j) .state)
+        (suc j)
     unfolding grow
     comes-more i q j v below opened f comes =
         let few = known-variables in
@@ -203,7 +203,9 @@ module _ (p : Pattern) (plan bytes : List ℕ) (n c duration : ℕ) (o : Of p pl
         (subst (List·Memᴰ (over x)) (skip-passes p B mark (until p B i) q j (omega arith) f) found))
 
     -- from one start
-    start-overs : (i x : ℕ) → i < recordCount bytes → List·Memᴰ (over x) (startFound p B i) → OverBy plan bytes n c duration tight x
+    start-overs :
+        (i x : ℕ) → i < recordCount bytes → List·Memᴰ (over x) (startFound p B i)
+        → OverBy plan bytes n c duration tight x
     start-overs i x l found =
         by-test (isEvent B i)
         (λ e.

@@ -1,22 +1,20 @@
 -- Where no condition joins variables the rule finds all that comes by own conditions alone. Assumes nothing.
 use mathlib.Core.Path.{_≡_, refl, sym, ap, subst, _∙_}
-use mathlib.Core.Bool.{true, false}
-use mathlib.Core.List.{List, [], _∷_, List·Memᴰ, List·Memᴰ·head}
-use Prim.Native.Nat.{ℕ, zero, suc, _+_, _-_, _^_, _≤_, _<_}
+use mathlib.Core.Bool.{true}
+use mathlib.Core.List.{List, [], List·Memᴰ, List·Memᴰ·head}
+use Prim.Native.Nat.{ℕ, suc, _+_, _-_, _^_, _≤_, _<_}
 use native.Mathlib.Omega.{arith}
 use lib.Bits.{bitOr}
 use lib.ListN.{length}
 use borrow.Author.Tests.{eq-eqb, le-ltb}
-use Rattle.numbers.specs.Numbers.{upto}
 use Rattle.numbers.proofs.Cases.{by-test, by-order}
-use Rattle.records.specs.Records.{recordAt, recordCount, recordsOf, eventKind}
+use Rattle.records.specs.Records.{recordAt, recordsOf, eventKind}
 use Rattle.records.proofs.Listed.{length-records}
 use Rattle.patterns.specs.declared.Pattern.{Pattern}
 use Rattle.patterns.specs.Patterns.{mostVariables}
 use Rattle.automaton.proofs.Membership.{clash, upto-mem, collect-mem}
 use Rattle.rule.specs.Rule.{Block, Reading, fires}
 use Rattle.rule.specs.Promises.{mostBindings}
-use Rattle.rule.specs.Computed.{isEvent}
 use Rattle.rule.specs.Starts.Found.{over}
 use Rattle.rule.specs.Starts.{Found, closesAt, until, markOf, withBinding, skipUntil, startFound, foundFrom, foundAll}
 use Rattle.rule.proofs.LiveReadings.{fires-variable}
@@ -29,7 +27,8 @@ use Rattle.reach.specs.Readings.{Usable, Of}
 use Rattle.sweep.specs.Floors.{Open, Steps, Comes, Free, Reached}
 use Rattle.sweep.specs.Floors.Comes.{begins, waits, takes}
 use Rattle.sweep.proofs.Windows.{event-by, past-by}
-use Rattle.sweep.proofs.Coming.{holding-nothing, none-below, read-later, known-variables, fires-steps, steps-fires}
+use Rattle.sweep.proofs.Coming.{holding-nothing, none-below, read-later, known-variables, fires-steps}
+use Rattle.sweep.proofs.Coming.{steps-fires}
 use Rattle.sweep.proofs.Coming.{below-more}
 
 -- with no bindings a reading stands where it begins

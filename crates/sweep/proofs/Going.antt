@@ -1,10 +1,10 @@
 -- The sweep from record to record, and what it comes to. Assumes nothing.
-use mathlib.Core.Path.{_≡_, refl, sym, ap, subst, _∙_}
+use mathlib.Core.Path.{_≡_, refl, ap, _∙_}
 use mathlib.Core.Bool.{Bool, true, false}
 use mathlib.Core.List.{List}
 use Prim.Native.Nat.{ℕ, _+_, _≤_, _<_}
 use native.Mathlib.Omega.{arith}
-use lib.ListN.{length, getD, replicate, length-replicate}
+use lib.ListN.{length, replicate, length-replicate}
 use Rattle.records.specs.Records.{recordAt, recordCount, eventKind}
 use Rattle.records.specs.Blocks.{mostRecords}
 use Rattle.firing.specs.Firing.{canBy}
@@ -117,7 +117,8 @@ module _ (plan bytes : List ℕ) (n c duration : ℕ) (usable : Usable plan byte
 
         -- one at which a reading takes a binding too many
         pub going-over :
-            Moved starts leaves links count can first tight j new true → tight ≡ true → Reached plan bytes n c duration j
+            Moved starts leaves links count can first tight j new true → tight ≡ true
+            → Reached plan bytes n c duration j
         going-over moved t =
             backed-over plan bytes n c duration usable tight (g .states) count starts j (g .backed) inside event leaves links can first
             (g .kept .size) (g .listed) is opened t (g .free t) (moved .over .some refl)

@@ -2,8 +2,8 @@
 -- is a floor. Assumes nothing.
 use mathlib.Core.Path.{_≡_, refl, sym, ap, subst, _∙_}
 use mathlib.Core.Bool.{Bool, true, false, _&&_}
-use mathlib.Core.List.{List, List·Memᴰ}
-use Prim.Native.Nat.{ℕ, zero, suc, _+_, _-_, _^_, _≤_, _<_}
+use mathlib.Core.List.{List}
+use Prim.Native.Nat.{ℕ, suc, _+_, _-_, _^_, _≤_, _<_}
 use native.Mathlib.Nat.{lt-of-le-of-lt}
 use native.Mathlib.Numerals.{add-one}
 use native.Mathlib.Omega.{arith}
@@ -13,23 +13,21 @@ use lib.Seq.{getD-set-same, getD-set-other}
 use Rattle.numbers.specs.Bits.{bit}
 use Rattle.numbers.proofs.Cases.{by-test, by-order}
 use Rattle.numbers.proofs.Bits.{bit-zero, bit-and}
-use Rattle.records.specs.Records.{recordAt, recordCount, recordsOf, eventKind}
+use Rattle.records.specs.Records.{recordAt, eventKind}
 use Rattle.records.specs.Blocks.{mostRecords}
-use Rattle.patterns.specs.declared.Pattern.{Pattern}
 use Rattle.patterns.specs.Patterns.{mostVariables}
 use Rattle.automaton.proofs.Membership.{clash}
 use Rattle.rule.specs.Promises.{mostBindings}
 use Rattle.rule.specs.Starts.Found.{over}
-use Rattle.rule.specs.Starts.{foundAll}
 use Rattle.firing.specs.Firing.{canBy}
-use Rattle.reach.specs.Readings.{leavingBy, Usable, Of}
-use Rattle.sweep.specs.States.{mostStates, linkAt, Listed, Inside}
+use Rattle.reach.specs.Readings.{leavingBy, Usable}
+use Rattle.sweep.specs.States.{linkAt, Listed, Inside}
 use Rattle.sweep.specs.Starts.{placeOf, mostPlaces, IsOver, Advanced}
 use Rattle.sweep.specs.Floors.{Past, Open, Steps, Comes, Free, Floor}
 use Rattle.sweep.specs.Floors.Comes.{begins, waits, takes}
 use Rattle.sweep.proofs.States.{leaving-bound}
 use Rattle.sweep.proofs.Starts.{and-left, and-right, no-bits}
-use Rattle.sweep.proofs.Coming.{OverBy, all-overs}
+use Rattle.sweep.proofs.Coming.{all-overs}
 
 -- the starts hold a reading's start, for its state and count of bindings
 pub record HeldAt (states : List ℕ) (count : ℕ) (starts : List ℕ) (i k state : ℕ) : Type 0 where
@@ -57,6 +55,7 @@ listed-inside plan n states leaves links count listed =
       room = listed .room;
       few = listed .few;
       known = λ i v l t. let k = listed .leads i v l t .known in let few = listed .few in omega arith;
+      onward = λ i v l t. listed .leads i v l t .onward;
     }
 
 module _ (plan bytes : List ℕ) (n c duration : ℕ) (usable : Usable plan bytes n c) (tight : Bool)
@@ -88,7 +87,9 @@ module _ (plan bytes : List ℕ) (n c duration : ℕ) (usable : Usable plan byte
     none-before i k state m l (waits b e some opened none comes) = absurd (omega arith)
     none-before i k state m l (takes b v s t e g h opened steps comes) = absurd (omega arith)
 
-    pub kept-none : (starts : List ℕ) → starts ≡ replicate mostPlaces 0 → Kept plan bytes n c duration tight states count starts 0
+    pub kept-none :
+        (starts : List ℕ) → starts ≡ replicate mostPlaces 0
+        → Kept plan bytes n c duration tight states count starts 0
     kept-none starts e =
         record {
           size = ap length e ∙ length-replicate {A = ℕ} mostPlaces 0;
@@ -226,14 +227,13 @@ module _ (plan bytes : List ℕ) (n c duration : ℕ) (usable : Usable plan byte
             let fires = fires-leave (h .at) v (f .0) in
             let leads = listed .leads (h .at) v (h .known) fires in
             let late = h .late in
-            let up = moved .here k (h .at) v (omega arith) fewer (h .known) (f .1) (f .0) in
+            let up = moved .here k (h .at) v fewer (omega arith) (h .known) (f .1) (f .0) in
             let to : ℕ = getD links (linkAt (h .at) v) 0 in
-            let place : placeOf (suc k) 0 + to ≡ placeOf (suc k) to = omega arith in
             record {
               at = to;
               known = leads .known;
               is = leads .is ∙ ap (λ (x : ℕ). bitOr x (2 ^ v)) (h .is);
-              late = subst (λ (x : ℕ). i < getD new x 0) place (omega arith);
+              late = omega arith;
             }
           where
             fires-leave : (at v : ℕ) → bit (bitAnd can (getD leaves at 0)) v ≡ true → bit (getD leaves at 0) v ≡ true
@@ -260,14 +260,14 @@ module _ (plan bytes : List ℕ) (n c duration : ℕ) (usable : Usable plan byte
             leave = listed .leaving (h .at) (h .known) ∙ ap (leavingBy plan n) (h .is)
 
         held-waited :
-            (i k state : ℕ) → (tight ≡ true → (v : ℕ) → Steps plan bytes n c j state v → ⊥)
+            (i k state : ℕ) → k ≤ mostBindings → (tight ≡ true → (v : ℕ) → Steps plan bytes n c j state v → ⊥)
             → HeldAt states count begun i k state
             → HeldAt states count new i k state
         unfolding begun
-        held-waited i k state none h =
+        held-waited i k state most none h =
             let few = listed .few in
             let known = h .known in
-            let up = moved .stays k (h .at) (omega arith) (omega arith) (λ t. quiet i k state (none t) h) in
+            let up = moved .stays k (h .at) most (omega arith) (λ t. quiet i k state (none t) h) in
             let late = h .late in
             record { at = h .at; known = h .known; is = h .is; late = omega arith }
 
@@ -284,7 +284,7 @@ module _ (plan bytes : List ℕ) (n c duration : ℕ) (usable : Usable plan byte
         held-after i k state some (begins a b e) = absurd (omega arith)
         held-after i k state some (waits b e s opened none comes) =
             let z : b ≡ j = omega arith in
-            held-waited i k state
+            held-waited i k state (kept .few i k state j (omega arith) (subst (Could i k state) z comes))
             (λ t v steps. none t v (subst (λ (x : ℕ). Steps plan bytes n c x state v) (sym z) steps))
             (held-begun i k state (subst (Could i k state) z comes))
         held-after i k state some (takes b v l s e g h opened steps comes) =

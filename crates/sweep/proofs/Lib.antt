@@ -1,5 +1,6 @@
 pub mod States
 pub mod Starts
+pub mod Advancing
 pub mod Windows
 pub mod Coming
 pub mod Finding

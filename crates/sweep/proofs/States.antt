@@ -1,11 +1,10 @@
 -- The list of states as it grows: a state put into it, one that is linked variable by variable, and all of them.
 -- Assumes nothing.
-use mathlib.Core.Path.{_≡_, refl, sym, ap, ap₂, subst, _∙_}
+use mathlib.Core.Path.{_≡_, refl, sym, ap, subst, _∙_}
 use mathlib.Core.Bool.{Bool, true, false, not, _&&_}
 use mathlib.Core.List.{List}
-use mathlib.Core.Logic.{⊎-elim}
-use Prim.Native.Nat.{ℕ, zero, suc, _+_, _-_, _*_, _^_, _≤_, _<_}
-use native.Mathlib.Nat.{eq-or-lt-of-le, lt-of-lt-of-le}
+use Prim.Native.Nat.{ℕ, _+_, _-_, _*_, _^_, _≤_, _<_}
+use native.Mathlib.Nat.{lt-of-lt-of-le}
 use native.Mathlib.Omega.{arith}
 use lib.Bits.{bitOr}
 use lib.Dec.{eqb}
@@ -57,12 +56,13 @@ put-none old count state at size e upTo =
     }
 
 pub leads-by :
-    (states links : List ℕ) (count at v to : ℕ) → getD links (linkAt at v) 0 ≡ to → to < count
+    (states links : List ℕ) (count at v to : ℕ) → getD links (linkAt at v) 0 ≡ to → to < count → at ≤ to
     → getD states to 0 ≡ bitOr (getD states at 0) (2 ^ v)
     → Leads states links count at v
-leads-by states links count at v to e l is =
+leads-by states links count at v to e l up is =
     record {
       known = subst (λ (x : ℕ). x < count) (sym e) l;
+      onward = subst (λ (x : ℕ). at ≤ x) (sym e) up;
       is = ap (λ (x : ℕ). getD states x 0) e ∙ is;
     }
 
@@ -75,7 +75,7 @@ pub leads-kept :
     → Leads states' links' more at v
 leads-kept states links count at v states' links' more leads l m kept same =
     let known = leads .known in
-    leads-by states' links' more at v (getD links (linkAt at v) 0) same (omega arith)
+    leads-by states' links' more at v (getD links (linkAt at v) 0) same (omega arith) (leads .onward)
     (kept (getD links (linkAt at v) 0) known ∙ leads .is ∙ ap (λ (x : ℕ). bitOr x (2 ^ v)) (sym (kept at l)))
 
 -- ## Linked variable by variable
@@ -122,7 +122,8 @@ module _ (states links : List ℕ) (count at leave : ℕ) where
       }
 
   module _ (states₁ links₁ : List ℕ) (more rest v from : ℕ)
-      (l : Linking states links count at leave states₁ links₁ more rest) (low : IsLowestBit 64 rest v) (known : at < count)
+      (l : Linking states links count at leave states₁ links₁ more rest) (low : IsLowestBit 64 rest v)
+      (known : at < count)
       (is : from ≡ getD states at 0) where
     pub small-variable : v < mostVariables
     small-variable = low-bits rest mostVariables v (l .small) (low .here)
@@ -130,9 +131,11 @@ module _ (states links : List ℕ) (count at leave : ℕ) where
     -- one variable more
     pub linking-more :
         (states₂ : List ℕ) (to more₂ : ℕ) → Put states₁ more (bitOr from (2 ^ v)) states₂ to → to < mostStates
+        → at ≤ to
         → more ≤ more₂ → to + 1 ≤ more₂ → more₂ ≤ mostStates
-        → Linking states links count at leave states₂ (set links₁ (linkAt at v) to) more₂ (rest - oneIf (bit rest v) * 2 ^ v)
-    linking-more states₂ to more₂ put inside a b few =
+        → Linking states links count at leave states₂ (set links₁ (linkAt at v) to) more₂
+        (rest - oneIf (bit rest v) * 2 ^ v)
+    linking-more states₂ to more₂ put inside up a b few =
         let begun = l .from in
         let most = l .few in
         let size = l .room in
@@ -162,6 +165,7 @@ module _ (states links : List ℕ) (count at leave : ℕ) where
             (leads-by states₂ (set links₁ (linkAt at v) to) more₂ at v to
             (getD-set-same links₁ (linkAt at v) to 0 (omega arith))
             (omega arith)
+            up
             (put .here inside ∙ ap (λ (x : ℕ). bitOr x (2 ^ v)) (is ∙ sym (kept at known))))
 
         there :

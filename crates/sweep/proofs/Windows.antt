@@ -1,12 +1,11 @@
 -- The windows of records by the bytes of the block: times rise, a window that is past stays past, and what is open by
 -- the bytes is open by the rule. Assumes nothing.
 use mathlib.Core.Path.{_≡_, sym, ap, ap₂, subst, _∙_}
-use mathlib.Core.Bool.{true, false}
+use mathlib.Core.Bool.{true}
 use mathlib.Core.List.{List}
 use Prim.Native.Nat.{ℕ, zero, suc, _+_, _-_, _≤_, _<_}
 use native.Mathlib.Omega.{arith}
 use lib.Dec.{eqb, ltb}
-use lib.ListN.{length}
 use borrow.Author.Tests.{lt-ltb, le-ltb, ltb-false, eqb-true}
 use Rattle.numbers.proofs.Cases.{by-order}
 use Rattle.records.specs.declared.Record.{Record}

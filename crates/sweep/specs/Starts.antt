@@ -1,5 +1,5 @@
--- For each count of bindings and each listed state one more than the latest start of a reading that could have them, 0
--- where there is none: a list, row by row. What one record does to it. No promise of a public call names this file.
+-- For each listed state and each count of bindings one more than the latest start of a reading that could have them, 0
+-- where there is none: a list, state by state. What one record does to it. No promise of a public call names this file.
 use mathlib.Core.Path.{_≡_}
 use mathlib.Core.Bool.{Bool, true, false}
 use mathlib.Core.List.{List}
@@ -10,61 +10,80 @@ use Rattle.numbers.specs.Bits.{bit}
 use Rattle.rule.specs.Promises.{mostBindings}
 use Rattle.sweep.specs.States.{mostStates, linkAt}
 
+-- the places of a state: from no binding to as many as a reading can have
+abbrev pub rowPlaces : ℕ
+rowPlaces = mostBindings + 1
+
 -- the place of a count of bindings and a state
 abbrev pub placeOf : ℕ → ℕ → ℕ
-placeOf k at = k * mostStates + at
+placeOf k at = at * rowPlaces + k
 
--- no binding up to as many as a reading can have
 abbrev pub mostPlaces : ℕ
-mostPlaces = placeOf (mostBindings + 1) 0
+mostPlaces = placeOf 0 mostStates
 
--- a place is what it was, or it has the start
-pub data Changed (old new : List ℕ) (start place : ℕ) (Where : Type 0) : Type 0 where
-  same : getD new place 0 ≡ getD old place 0 → Changed old new start place Where
-  put : Where → getD new place 0 ≡ start → Changed old new start place Where
+-- ## One state
 
--- a place has the start now, if it was less
-pub record Raised (old : List ℕ) (at start : ℕ) (new : List ℕ) : Type 0 where
+-- the starts of a state, those up to `low` as 0
+pub record LateOnes (starts : List ℕ) (low at : ℕ) (own : List ℕ) : Type 0 where
+  pub size : length own ≡ rowPlaces
+  pub late :
+      (k : ℕ) → k ≤ mostBindings → low < getD starts (placeOf k at) 0 → getD own k 0 ≡ getD starts (placeOf k at) 0
+  pub out : (k : ℕ) → k ≤ mostBindings → getD starts (placeOf k at) 0 ≤ low → getD own k 0 ≡ 0
+
+-- a place is what it was, or with `tight` a place of the state that is cleared
+pub data Cleared (old : List ℕ) (tight : Bool) (at : ℕ) (new : List ℕ) (place : ℕ) : Type 0 where
+  remains : getD new place 0 ≡ getD old place 0 → Cleared old tight at new place
+  cleared :
+      (k : ℕ) → k ≤ mostBindings → place ≡ placeOf k at → tight ≡ true → getD new place 0 ≡ 0
+      → Cleared old tight at new place
+
+-- with `tight` the places of a state are cleared, up to `done`
+pub record RowCleared (old : List ℕ) (tight : Bool) (at : ℕ) (new : List ℕ) (done : ℕ) : Type 0 where
+  pub size : length new ≡ length old
+  pub only : (place : ℕ) → Cleared old tight at new place
+  pub gone : tight ≡ true → (k : ℕ) → k < done → getD new (placeOf k at) 0 ≡ 0
+
+-- a place is what it was, or it has one of the starts, for one binding more in state `to`
+pub data Grown (old own : List ℕ) (to : ℕ) (new : List ℕ) (place : ℕ) : Type 0 where
+  same : getD new place 0 ≡ getD old place 0 → Grown old own to new place
+  grew :
+      (k : ℕ) → k < mostBindings → place ≡ placeOf (suc k) to → getD new place 0 ≡ getD own k 0
+      → Grown old own to new place
+
+-- state `to` has each of the starts, up to `done`, for one binding more, where it had less
+pub record RowRaised (old own : List ℕ) (to : ℕ) (new : List ℕ) (done : ℕ) : Type 0 where
   pub size : length new ≡ length old
   pub above : (place : ℕ) → getD old place 0 ≤ getD new place 0
-  pub here : start ≤ getD new at 0
-  pub only : (place : ℕ) → Changed old new start place (place ≡ at)
+  pub here : (k : ℕ) → k < done → getD own k 0 ≤ getD new (placeOf (suc k) to) 0
+  pub only : (place : ℕ) → Grown old own to new place
 
--- a variable of a mask leads from a state to a place of the row that begins there
-pub record Reaches (links : List ℕ) (row at firing place : ℕ) : Type 0 where
-  pub variable : ℕ
-  pub fires : bit firing variable ≡ true
-  pub is : place ≡ row + getD links (linkAt at variable) 0
+-- the same of each state that a state leads to by a variable of a mask
+pub data Led (old links own : List ℕ) (at firing : ℕ) (new : List ℕ) (place : ℕ) : Type 0 where
+  unled : getD new place 0 ≡ getD old place 0 → Led old links own at firing new place
+  led :
+      (v k : ℕ) → bit firing v ≡ true → k < mostBindings → place ≡ placeOf (suc k) (getD links (linkAt at v) 0)
+      → getD new place 0 ≡ getD own k 0
+      → Led old links own at firing new place
 
--- the same of each place of a row that a state leads to by the variables of a mask
-pub record Spread (old links : List ℕ) (row at firing start : ℕ) (new : List ℕ) : Type 0 where
-  pub size : length new ≡ length old
-  pub above : (place : ℕ) → getD old place 0 ≤ getD new place 0
-  pub here : (v : ℕ) → bit firing v ≡ true → start ≤ getD new (row + getD links (linkAt at v) 0) 0
-  pub only : (place : ℕ) → Changed old new start place (Reaches links row at firing place)
-
--- ## A row
-
--- a place is what it was, or it has the start of a state of row k that leads to it by a variable that fires; starts up
--- to `low` are out
-pub data RowChanged (old leaves links : List ℕ) (count can low k : ℕ) (new : List ℕ) (place : ℕ) : Type 0 where
-  rests : getD new place 0 ≡ getD old place 0 → RowChanged old leaves links count can low k new place
-  arrives :
-      (at : ℕ) → at < count → low < getD old (placeOf k at) 0
-      → Reaches links (placeOf (suc k) 0) at (bitAnd can (getD leaves at 0)) place
-      → getD new place 0 ≡ getD old (placeOf k at) 0
-      → RowChanged old leaves links count can low k new place
-
--- each state of row k, up to `done`, has led to the next row
-pub record RowSpread (old leaves links : List ℕ) (count can low k : ℕ) (new : List ℕ) (done : ℕ) : Type 0 where
+pub record Spread (old links own : List ℕ) (at firing : ℕ) (new : List ℕ) : Type 0 where
   pub size : length new ≡ length old
   pub above : (place : ℕ) → getD old place 0 ≤ getD new place 0
   pub here :
-      (at v : ℕ) → at < done → low < getD old (placeOf k at) 0 → bit (bitAnd can (getD leaves at 0)) v ≡ true
-      → getD old (placeOf k at) 0 ≤ getD new (placeOf (suc k) 0 + getD links (linkAt at v) 0) 0
-  pub only : (place : ℕ) → RowChanged old leaves links count can low k new place
+      (v k : ℕ) → bit firing v ≡ true → k < mostBindings
+      → getD own k 0 ≤ getD new (placeOf (suc k) (getD links (linkAt at v) 0)) 0
+  pub only : (place : ℕ) → Led old links own at firing new place
 
--- a state of so many, in the last row, that a variable leaves
+-- where no variable can fire and leave a state nothing moves; else the state leads on, and with `tight` it is left
+pub data StateMoved (old leaves links : List ℕ) (can low : ℕ) (tight : Bool) (at : ℕ) (new : List ℕ) : Type 0 where
+  idle :
+      bitAnd can (getD leaves at 0) ≡ 0 → new ≡ old → StateMoved old leaves links can low tight at new
+  active :
+      (own mid : List ℕ) → 0 < bitAnd can (getD leaves at 0) → LateOnes old low at own
+      → RowCleared old tight at mid rowPlaces
+      → Spread mid links own at (bitAnd can (getD leaves at 0)) new
+      → StateMoved old leaves links can low tight at new
+
+-- a reading of a state, of so many, that has as many bindings as it can, and that a variable leaves
 pub record SomeOver (starts leaves : List ℕ) (count can low : ℕ) : Type 0 where
   pub at : ℕ
   pub known : at < count
@@ -78,28 +97,10 @@ pub record IsOver (starts leaves : List ℕ) (count can low : ℕ) (is : Bool) :
       is ≡ false → (at : ℕ) → at < count → low < getD starts (placeOf mostBindings at) 0
       → bitAnd can (getD leaves at 0) ≡ 0
 
--- ## A row that is left
+-- ## All states
 
--- a place is what it was, or it is cleared: with `tight`, where it is a state of row k that a variable leaves
-pub data Cleared (old leaves : List ℕ) (count can : ℕ) (tight : Bool) (k : ℕ) (new : List ℕ) (place : ℕ) : Type 0 where
-  remains : getD new place 0 ≡ getD old place 0 → Cleared old leaves count can tight k new place
-  cleared :
-      (at : ℕ) → at < count → place ≡ placeOf k at → tight ≡ true → 0 < bitAnd can (getD leaves at 0)
-      → getD new place 0 ≡ 0
-      → Cleared old leaves count can tight k new place
-
--- with `tight` each such state, up to `done`, is cleared
-pub record Settled (old leaves : List ℕ) (count can : ℕ) (tight : Bool) (k : ℕ) (new : List ℕ)
-    (done : ℕ) : Type 0 where
-  pub size : length new ≡ length old
-  pub only : (place : ℕ) → Cleared old leaves count can tight k new place
-  pub gone :
-      tight ≡ true → (at : ℕ) → at < done → 0 < bitAnd can (getD leaves at 0) → getD new (placeOf k at) 0 ≡ 0
-
--- ## All rows
-
--- where the start of a place is from: it stays, with `tight` in a state that no variable leaves, or a state of the row
--- before leads there
+-- where the start of a place is from: it stays, with `tight` in a state that no variable leaves, or a state leads there
+-- with one binding less; starts up to `low` are out
 pub data Came (old leaves links : List ℕ) (count can low : ℕ) (tight : Bool) (k at start : ℕ) : Type 0 where
   stayed :
       getD old (placeOf k at) 0 ≡ start → (tight ≡ true → at < count → bitAnd can (getD leaves at 0) ≡ 0)
@@ -111,23 +112,23 @@ pub data Came (old leaves links : List ℕ) (count can low : ℕ) (tight : Bool)
       → getD links (linkAt from v) 0 ≡ at
       → Came old leaves links count can low tight k at start
 
--- the rows from k on have led on
+-- the states from `done` on have led on
 pub record Advanced (old leaves links : List ℕ) (count can low : ℕ) (tight : Bool) (new : List ℕ)
-    (k : ℕ) : Type 0 where
+    (done : ℕ) : Type 0 where
   pub size : length new ≡ length old
-  pub before : (m at : ℕ) → m < k → at < mostStates → getD new (placeOf m at) 0 ≡ getD old (placeOf m at) 0
+  pub before : (k at : ℕ) → k ≤ mostBindings → at < done → getD new (placeOf k at) 0 ≡ getD old (placeOf k at) 0
   pub stays :
-      (m at : ℕ) → k ≤ m → at < mostStates → (tight ≡ true → bitAnd can (getD leaves at 0) ≡ 0)
-      → getD old (placeOf m at) 0 ≤ getD new (placeOf m at) 0
+      (k at : ℕ) → k ≤ mostBindings → done ≤ at → (tight ≡ true → bitAnd can (getD leaves at 0) ≡ 0)
+      → getD old (placeOf k at) 0 ≤ getD new (placeOf k at) 0
   pub here :
-      (m at v : ℕ) → k ≤ m → m < mostBindings → at < count → low < getD old (placeOf m at) 0
+      (k at v : ℕ) → k < mostBindings → done ≤ at → at < count → low < getD old (placeOf k at) 0
       → bit (bitAnd can (getD leaves at 0)) v ≡ true
-      → getD old (placeOf m at) 0 ≤ getD new (placeOf (suc m) 0 + getD links (linkAt at v) 0) 0
+      → getD old (placeOf k at) 0 ≤ getD new (placeOf (suc k) (getD links (linkAt at v) 0)) 0
   pub came :
-      (m at : ℕ) → k ≤ m → m ≤ mostBindings → at < mostStates → low < getD new (placeOf m at) 0
-      → Came old leaves links count can low tight m at (getD new (placeOf m at) 0)
+      (k at : ℕ) → k ≤ mostBindings → done ≤ at → low < getD new (placeOf k at) 0
+      → Came old leaves links count can low tight k at (getD new (placeOf k at) 0)
 
--- record j begins readings, and unless one of the last row leads on, all rows do
+-- record j begins readings, and unless one that has as many bindings as it can leads on, all states do
 pub record Moved (old leaves links : List ℕ) (count can low : ℕ) (tight : Bool) (j : ℕ) (new : List ℕ)
     (is : Bool) : Type 0 where
   pub over : IsOver (set old 0 (j + 1)) leaves count can low is

@@ -28,9 +28,10 @@ pub record Put (old : List ℕ) (count state : ℕ) (new : List ℕ) (at : ℕ) 
   pub kept : (i : ℕ) → i < count → getD new i 0 ≡ getD old i 0
   pub here : at < mostStates → getD new at 0 ≡ state
 
--- the link by v of the state at a place leads to the state with v
+-- the link by v of the state at a place leads to the state with v, which stands no earlier
 pub record Leads (states links : List ℕ) (count at v : ℕ) : Type 0 where
   pub known : getD links (linkAt at v) 0 < count
+  pub onward : at ≤ getD links (linkAt at v) 0
   pub is : getD states (getD links (linkAt at v) 0) 0 ≡ bitOr (getD states at 0) (2 ^ v)
 
 -- the state at a place, of so many, is linked by each variable of `leave`; the list has now so many more
@@ -54,9 +55,10 @@ pub record Listed (plan : List ℕ) (n : ℕ) (states leaves links : List ℕ) (
   pub leaving : (i : ℕ) → i < at → getD leaves i 0 ≡ leavingBy plan n (getD states i 0)
   pub leads : (i v : ℕ) → i < at → bit (getD leaves i 0) v ≡ true → Leads states links count i v
 
--- what a state leads to is in the list
+-- what a state leads to is in the list, and no earlier
 pub record Inside (leaves links : List ℕ) (count : ℕ) : Type 0 where
   pub wide : length leaves ≡ mostStates
   pub room : length links ≡ mostLinks
   pub few : count ≤ mostStates
   pub known : (i v : ℕ) → i < count → bit (getD leaves i 0) v ≡ true → getD links (linkAt i v) 0 < mostStates
+  pub onward : (i v : ℕ) → i < count → bit (getD leaves i 0) v ≡ true → i ≤ getD links (linkAt i v) 0

@@ -1,6 +1,7 @@
 // One sweep over the block: the first record at which a reading could take a binding too many.
 ghost use mathlib.Core.Path.{_≡_};
-ghost use mathlib.Core.Bool.{true, false};
+ghost use mathlib.Core.Bool.{true};
+ghost use mathlib.Core.Logic.{_⊎_};
 ghost use Prim.Native.Nat.{ℕ, _+_, _^_, _<_, _≤_};
 ghost use lib.Dec.{ltb};
 ghost use lib.ListN.{length, getD, replicate};
@@ -12,12 +13,11 @@ ghost use Rattle.rule.specs.Promises.{mostBindings};
 ghost use Rattle.firing.specs.Plan.{planRoom};
 ghost use Rattle.reach.specs.Readings.{Cans, Usable};
 ghost use Rattle.sweep.specs.States.{mostStates, linkAt, mostLinks, Put, Linked, Listed, Inside};
-ghost use Rattle.sweep.specs.Starts.{mostPlaces, Raised, Spread, RowSpread, Settled, IsOver, Advanced};
-ghost use Rattle.sweep.specs.Starts.{Moved};
+ghost use Rattle.sweep.specs.Starts.{rowPlaces, mostPlaces, LateOnes, RowCleared, RowRaised, Spread, StateMoved};
+ghost use Rattle.sweep.specs.Starts.{IsOver, Advanced, Moved};
 ghost use Rattle.sweep.specs.Floors.{Past, FirstOpen, Free, Floor, Reached};
 
-// How many states are listed at most: as many as two sets of six variables have, and more than there are of any other
-// pattern.
+// How many states are listed at most. Two sets of six variables have 127, and no other pattern has more.
 const MOST_STATES: usize = 128;
 
 const MOST_LINKS: usize = MOST_STATES * patterns::MOST_VARIABLES;
@@ -25,7 +25,9 @@ const MOST_LINKS: usize = MOST_STATES * patterns::MOST_VARIABLES;
 // Where a plan has the conditions that join each variable.
 const FIRST_JOINS: usize = patterns::MOST_CONDITIONS + 3 * patterns::MOST_VARIABLES;
 
-const MOST_PLACES: usize = (slots::MOST_BINDINGS + 1) * MOST_STATES;
+const ROW_PLACES: usize = slots::MOST_BINDINGS + 1;
+
+const MOST_PLACES: usize = MOST_STATES * ROW_PLACES;
 
 // The first record at which a reading could take a binding too many, and whether one does.
 pub struct Swept {
@@ -82,8 +84,9 @@ fn larger(a: usize, b: usize) -> usize
     if a < b { b } else { a }
 }
 
-// Links the state at a place by each variable that leaves it, and lists the states that they lead to. Gives the number
-// of states then; where there is no room for them, more than there can be.
+// Links the state at a place by each variable that leaves it, and lists the states that they lead to: these have a
+// variable more, or are the state itself, so none stands earlier. Gives the number of states then; where there is no
+// room for them, more than there can be.
 fn link(
     states: &mut [u64; MOST_STATES],
     links: &mut [u8; MOST_LINKS],
@@ -105,6 +108,9 @@ fn link(
         rest = numbers::without_bit(rest, v);
         let to = put(states, more, numbers::with_bit(from, v));
         if to == MOST_STATES {
+            return MOST_STATES + 1;
+        }
+        if to < at {
             return MOST_STATES + 1;
         }
         links[at * patterns::MOST_VARIABLES + v] = to as u8;
@@ -143,126 +149,140 @@ fn list_states(
 
 // ## The latest starts
 
-// One more than the start, where that is more than what stands there.
-fn raise(starts: &mut [u16; MOST_PLACES], at: usize, start: u16)
-    requires { ⌜ (length (now starts) ≡ mostPlaces) × (at < mostPlaces) ⌝ }
-    ensures { λ r. ⌜ Raised (now (starts .entry)) at start (now (starts .exit)) ⌝ }
+// For each state and each count of bindings one more than the latest start of a reading that could have them, 0 where
+// there is none. This is none at all.
+fn no_starts() -> [u16; MOST_PLACES]
+    ensures { λ r. ⌜ r ≡ replicate mostPlaces 0 ⌝ }
 {
-    if start <= starts[at] {
-        return;
-    }
-    starts[at] = start;
+    [0; MOST_PLACES]
 }
 
-// The start for each state that the variables lead to, in the row that begins at a place.
+// The larger of two.
+fn later(a: u16, b: u16) -> u16
+    ensures { λ r. ⌜ (a ≤ r) × (b ≤ r) × ((r ≡ a) ⊎ (r ≡ b)) ⌝ }
+{
+    if a < b { b } else { a }
+}
+
+// A start, or 0 where it is out.
+fn if_late(start: u16, low: u16) -> u16
+    ensures { λ r. ⌜ (low < start → r ≡ start) × (start ≤ low → r ≡ 0) ⌝ }
+{
+    if low < start { start } else { 0 }
+}
+
+fn no_row() -> [u16; ROW_PLACES]
+    ensures { λ r. ⌜ r ≡ replicate rowPlaces 0 ⌝ }
+{
+    [0; ROW_PLACES]
+}
+
+// The starts of a state, those up to `low` as 0.
+fn late_ones(starts: &[u16; MOST_PLACES], low: u16, at: usize) -> [u16; ROW_PLACES]
+    requires { ⌜ (length (now starts) ≡ mostPlaces) × (at < mostStates) ⌝ }
+    ensures { λ own. ⌜ LateOnes (now (starts .entry)) low at own ⌝ }
+{
+    let row = at * ROW_PLACES;
+    let mut own = no_row();
+    let mut k = 0;
+    while k < ROW_PLACES {
+        own[k] = if_late(starts[row + k], low);
+        k += 1;
+    }
+    own
+}
+
+// With `tight` the state is left: a reading passes over no record that it can be bound to.
+fn clear_row(starts: &mut [u16; MOST_PLACES], tight: bool, at: usize)
+    requires { ⌜ (length (now starts) ≡ mostPlaces) × (at < mostStates) ⌝ }
+    ensures { λ r. ⌜ RowCleared (now (starts .entry)) tight at (now (starts .exit)) rowPlaces ⌝ }
+{
+    if !tight {
+        return;
+    }
+    let row = at * ROW_PLACES;
+    let mut k = 0;
+    while k < ROW_PLACES {
+        starts[row + k] = 0;
+        k += 1;
+    }
+}
+
+// Each of the starts for one binding more in a state, where it has an earlier one.
+fn raise_row(starts: &mut [u16; MOST_PLACES], own: &[u16; ROW_PLACES], to: usize)
+    requires { ⌜ (length (now starts) ≡ mostPlaces) × (length (now own) ≡ rowPlaces) × (to < mostStates) ⌝ }
+    ensures { λ r. ⌜ RowRaised (now (starts .entry)) (now (own .entry)) to (now (starts .exit)) mostBindings ⌝ }
+{
+    let row = to * ROW_PLACES + 1;
+    let mut k = 0;
+    while k < slots::MOST_BINDINGS {
+        starts[row + k] = later(starts[row + k], own[k]);
+        k += 1;
+    }
+}
+
+// The same for each state that the variables lead to.
 fn spread(
     starts: &mut [u16; MOST_PLACES],
     links: &[u8; MOST_LINKS],
-    row: usize,
+    own: &[u16; ROW_PLACES],
     at: usize,
     firing: u64,
-    start: u16,
 )
-    requires { ⌜ (length (now starts) ≡ mostPlaces) × (length (now links) ≡ mostLinks)
-        × (row + mostStates ≤ mostPlaces) × (at < mostStates) × (firing < 2 ^ mostVariables)
+    requires { ⌜ (length (now starts) ≡ mostPlaces) × (length (now links) ≡ mostLinks) × (length (now own) ≡ rowPlaces)
+        × (at < mostStates) × (firing < 2 ^ mostVariables)
         × ((v : ℕ) → bit firing v ≡ true → getD (now links) (linkAt at v) 0 < mostStates) ⌝ }
-    ensures { λ r. ⌜ Spread (now (starts .entry)) (now (links .entry)) row at firing start (now (starts .exit)) ⌝ }
+    ensures { λ r. ⌜ Spread (now (starts .entry)) (now (links .entry)) (now (own .entry)) at firing
+        (now (starts .exit)) ⌝ }
 {
     let mut rest = firing;
     while rest != 0 {
         let v = numbers::lowest_bit(rest);
         rest = numbers::without_bit(rest, v);
         let to = links[at * patterns::MOST_VARIABLES + v] as usize;
-        raise(starts, row + to, start);
+        raise_row(starts, own, to);
     }
 }
 
-fn wide(x: u16) -> usize
-    ensures { λ r. ⌜ r ≡ x ⌝ }
-{
-    x as usize
-}
-
-// Each state of row k leads on, by the variables that can fire and leave it, to the next row. Starts up to `low` are
-// out.
-fn spread_row(
+// The starts of one state lead on, by the variables that can fire and leave it. Starts up to `low` are out.
+fn move_state(
     starts: &mut [u16; MOST_PLACES],
     leaves: &[u64; MOST_STATES],
     links: &[u8; MOST_LINKS],
     count: usize,
     can: u64,
-    low: usize,
-    k: usize,
+    low: u16,
+    tight: bool,
+    at: usize,
 )
     requires { ⌜ (length (now starts) ≡ mostPlaces) × Inside (now leaves) (now links) count × (can < 2 ^ mostVariables)
-        × (k < mostBindings) ⌝ }
-    ensures { λ r. ⌜ RowSpread (now (starts .entry)) (now (leaves .entry)) (now (links .entry)) count can low k
-        (now (starts .exit)) count ⌝ }
+        × (at < count) ⌝ }
+    ensures { λ r. ⌜ StateMoved (now (starts .entry)) (now (leaves .entry)) (now (links .entry)) can low tight at
+        (now (starts .exit)) ⌝ }
 {
-    let row = k * MOST_STATES;
-    let mut at = 0;
-    while at < count {
-        let start = starts[row + at];
-        if wide(start) <= low {
-            at += 1;
-            continue;
-        }
-        spread(
-            starts,
-            links,
-            row + MOST_STATES,
-            at,
-            can & leaves[at],
-            start,
-        );
-        at += 1;
-    }
-}
-
-// With `tight` no state of row k keeps its start that a variable leaves: a reading passes over no record that it can be
-// bound to.
-fn settle_row(
-    starts: &mut [u16; MOST_PLACES],
-    leaves: &[u64; MOST_STATES],
-    count: usize,
-    can: u64,
-    tight: bool,
-    k: usize,
-)
-    requires { ⌜ (length (now starts) ≡ mostPlaces) × (length (now leaves) ≡ mostStates) × (count ≤ mostStates)
-        × (k < mostBindings) ⌝ }
-    ensures { λ r. ⌜ Settled (now (starts .entry)) (now (leaves .entry)) count can tight k (now (starts .exit)) count ⌝ }
-{
-    if !tight {
+    let firing = can & leaves[at];
+    if firing == 0 {
         return;
     }
-    let row = k * MOST_STATES;
-    let mut at = 0;
-    while at < count {
-        if can & leaves[at] == 0 {
-            at += 1;
-            continue;
-        }
-        starts[row + at] = 0;
-        at += 1;
-    }
+    let own = late_ones(starts, low, at);
+    clear_row(starts, tight, at);
+    spread(starts, links, &own, at, firing);
 }
 
-// Whether a state of the last row leads on.
+// Whether a reading that has as many bindings as it can leads on.
 fn is_over(
     starts: &[u16; MOST_PLACES],
     leaves: &[u64; MOST_STATES],
     count: usize,
     can: u64,
-    low: usize,
+    low: u16,
 ) -> bool
     requires { ⌜ (length (now starts) ≡ mostPlaces) × (length (now leaves) ≡ mostStates) × (count ≤ mostStates) ⌝ }
     ensures { λ r. ⌜ IsOver (now (starts .entry)) (now (leaves .entry)) count can low r ⌝ }
 {
-    let row = slots::MOST_BINDINGS * MOST_STATES;
     let mut at = 0;
     while at < count {
-        if wide(starts[row + at]) <= low {
+        if starts[at * ROW_PLACES + slots::MOST_BINDINGS] <= low {
             at += 1;
             continue;
         }
@@ -274,38 +294,37 @@ fn is_over(
     false
 }
 
-// Each row leads on, the last first, so that no start moves twice.
+// Each state leads on, the last first: what it leads to stands behind it, so no start moves twice.
 fn advance(
     starts: &mut [u16; MOST_PLACES],
     leaves: &[u64; MOST_STATES],
     links: &[u8; MOST_LINKS],
     count: usize,
     can: u64,
-    low: usize,
+    low: u16,
     tight: bool,
 )
-    requires { ⌜ (length (now starts) ≡ mostPlaces) × Inside (now leaves) (now links) count × (can < 2 ^ mostVariables)
-        × IsOver (now starts) (now leaves) count can low false ⌝ }
+    requires { ⌜ (length (now starts) ≡ mostPlaces) × Inside (now leaves) (now links) count
+        × (can < 2 ^ mostVariables) ⌝ }
     ensures { λ r. ⌜ Advanced (now (starts .entry)) (now (leaves .entry)) (now (links .entry)) count can low tight
         (now (starts .exit)) 0 ⌝ }
 {
-    let mut k = slots::MOST_BINDINGS;
-    while 0 < k {
-        k -= 1;
-        spread_row(starts, leaves, links, count, can, low, k);
-        settle_row(starts, leaves, count, can, tight, k);
+    let mut at = count;
+    while 0 < at {
+        at -= 1;
+        move_state(starts, leaves, links, count, can, low, tight, at);
     }
 }
 
-// A record that can be bound: it may begin readings, and each row leads on. Whether a reading could take a binding too
-// many there; if so nothing has moved.
+// A record that can be bound: it may begin readings, and each state leads on. Whether a reading could take a binding
+// too many there; if so nothing has moved.
 fn is_over_at(
     starts: &mut [u16; MOST_PLACES],
     leaves: &[u64; MOST_STATES],
     links: &[u8; MOST_LINKS],
     count: usize,
     can: u64,
-    low: usize,
+    low: u16,
     tight: bool,
     j: usize,
 ) -> bool
@@ -323,12 +342,6 @@ fn is_over_at(
 }
 
 // ## The sweep
-
-fn no_starts() -> [u16; MOST_PLACES]
-    ensures { λ r. ⌜ r ≡ replicate mostPlaces 0 ⌝ }
-{
-    [0; MOST_PLACES]
-}
 
 // Whether a time is more than the duration after the first.
 fn is_past(first: u64, duration: u64, time: u64) -> bool
@@ -413,7 +426,16 @@ pub fn sweep(
             continue;
         }
         low = first_open(block, duration, low, j);
-        if is_over_at(&mut starts, &leaves, &links, known, can, low, tight, j) {
+        if is_over_at(
+            &mut starts,
+            &leaves,
+            &links,
+            known,
+            can,
+            low as u16,
+            tight,
+            j,
+        ) {
             return Swept {
                 floor: j,
                 exact: tight,

@@ -13,28 +13,25 @@ use Rattle.sweep.proofs.is_over.Statement.{statement}
 use Rattle.sweep.proofs.is_over.Tie as tie
 
 abbrev Inv-loop : tie.InvT-loop
-Inv-loop starts leaves count can low row at₀ at = (at ≤ count) × ((i : ℕ) → i < at → low < getD starts (placeOf mostBindings i) 0 → bitAnd can (getD leaves i 0) ≡ 0)
+Inv-loop starts leaves count can low at₀ at = (at ≤ count) × ((i : ℕ) → i < at → low < getD starts (placeOf mostBindings i) 0 → bitAnd can (getD leaves i 0) ≡ 0)
 
 abbrev μ-loop : tie.MeasureT-loop
-μ-loop starts leaves count can low row at₀ at = count - at
-
-mul-row : tie.Need-mul-row Inv-loop μ-loop
-mul-row c = search needs
+μ-loop starts leaves count can low at₀ at = count - at
 
 loop-holds : tie.Need-loop-holds Inv-loop μ-loop
 loop-holds c = (omega arith, λ i l. absurd (omega arith))
 
-add-wide : tie.Need-add-wide Inv-loop μ-loop
-add-wide c = search needs
+mul-if1 : tie.Need-mul-if1 Inv-loop μ-loop
+mul-if1 c = search needs
 
-mul-wide : tie.Need-mul-wide Inv-loop μ-loop
-mul-wide c = search needs
+add-if1 : tie.Need-add-if1 Inv-loop μ-loop
+add-if1 c = search needs
 
-element-copy-out-wide : tie.Need-element-copy-out-wide Inv-loop μ-loop
-element-copy-out-wide c = search needs
+mul-if1-2 : tie.Need-mul-if1-2 Inv-loop μ-loop
+mul-if1-2 c = search needs
 
-wide-requires : tie.Need-wide-requires Inv-loop μ-loop
-wide-requires c κs = search needs
+element-copy-out-if1 : tie.Need-element-copy-out-if1 Inv-loop μ-loop
+element-copy-out-if1 c = search needs
 
 add-at : tie.Need-add-at Inv-loop μ-loop
 add-at c = search needs
@@ -44,10 +41,9 @@ loop-less c = search needs
 
 loop-again : tie.Need-loop-again Inv-loop μ-loop
 loop-again c =
-    let h = c .before .before .before .before .loop in
-    let a = c .before .before .before .before .before .args in
-    let is = c .before .wide .ensures in
-    (omega (arith, c .before .before .before .loop-test .taken), none-more (a .starts .now) (a .leaves .now) (a .can) (a .low) (h .at) (h .inv .1) (λ late. absurd (omega (arith, c .if1 .taken))))
+    let h = c .before .before .before .loop in
+    let a = c .before .before .before .before .args in
+    (omega (arith, c .before .before .loop-test .taken), none-more (a .starts .now) (a .leaves .now) (a .can) (a .low) (h .at) (h .inv .1) (λ late. absurd (omega (arith, c .if1 .taken))))
 
 mul-if2 : tie.Need-mul-if2 Inv-loop μ-loop
 mul-if2 c = search needs
@@ -57,10 +53,9 @@ element-copy-out-if2 c = search needs
 
 returns : tie.Need-returns Inv-loop μ-loop
 returns c =
-    let h = c .before .before .before .before .before .before .loop in
-    let is = c .before .before .before .wide .ensures in
+    let h = c .before .before .before .before .before .loop in
     record {
-      some = λ e. record { at = h .at; known = c .before .before .before .before .before .loop-test .taken; late = omega (arith, c .before .before .if1 .left); fires = omega (arith, c .if2 .taken) };
+      some = λ e. record { at = h .at; known = c .before .before .before .before .loop-test .taken; late = omega (arith, c .before .before .if1 .left); fires = omega (arith, c .if2 .taken) };
       none = λ e. absurd (true≢false e);
     }
 
@@ -72,9 +67,9 @@ loop-less-2 c = search needs
 
 loop-again-2 : tie.Need-loop-again-2 Inv-loop μ-loop
 loop-again-2 c =
-    let h = c .before .before .before .before .before .before .loop in
-    let a = c .before .before .before .before .before .before .before .args in
-    (omega (arith, c .before .before .before .before .before .loop-test .taken), none-more (a .starts .now) (a .leaves .now) (a .can) (a .low) (h .at) (h .inv .1) (λ late. c .if2 .left))
+    let h = c .before .before .before .before .before .loop in
+    let a = c .before .before .before .before .before .before .args in
+    (omega (arith, c .before .before .before .before .loop-test .taken), none-more (a .starts .now) (a .leaves .now) (a .can) (a .low) (h .at) (h .inv .1) (λ late. c .if2 .left))
 
 returns-2 : tie.Need-returns-2 Inv-loop μ-loop
 returns-2 c =
@@ -90,12 +85,11 @@ is-over-spec =
     (tie.spec
     Inv-loop
     μ-loop
-    mul-row
     loop-holds
-    add-wide
-    mul-wide
-    element-copy-out-wide
-    wide-requires
+    mul-if1
+    add-if1
+    mul-if1-2
+    element-copy-out-if1
     add-at
     loop-less
     loop-again

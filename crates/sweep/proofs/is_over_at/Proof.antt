@@ -1,8 +1,8 @@
 -- `sweep::is_over_at` meets its contract. Assumes nothing.
-use mathlib.Core.Path.{subst, _∙_}
+use mathlib.Core.Path.{subst}
 use mathlib.Core.Bool.{true≢false}
 use Prim.Native.Nat.{_+_}
-use lib.ListN.{set, length-set}
+use lib.ListN.{set}
 use Rattle.sweep.specs.Starts.{IsOver}
 use borrow.Author.Needs.{needs}
 use Rattle.sweep.proofs.is_over_at.Statement.{statement}
@@ -29,10 +29,7 @@ returns c =
     }
 
 advance-requires : tie.Need-advance-requires
-advance-requires c κs =
-    let a = c .before .before .before .before .args in
-    let pre = c .before .before .before .before .pre in
-    (length-set (a .starts .now) 0 (a .j + 1) ∙ pre .0, pre .1, pre .2, subst (IsOver (set (a .starts .now) 0 (a .j + 1)) (a .leaves .now) (a .count) (a .can) (a .low)) (c .before .if1 .left) (c .before .before .is-over .ensures))
+advance-requires c κs = search needs
 
 returns-2 : tie.Need-returns-2
 returns-2 c =

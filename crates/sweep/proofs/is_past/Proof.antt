@@ -4,7 +4,6 @@ use native.Mathlib.Omega.{arith}
 use mathlib.Core.Path.{sym}
 use borrow.Author.Tests.{le-ltb}
 use Rattle.sweep.proofs.Windows.{past-sum}
-use borrow.Author.Needs.{needs}
 use Rattle.sweep.proofs.is_past.Statement.{statement}
 use Rattle.sweep.proofs.is_past.Tie as tie
 

@@ -48,6 +48,12 @@ add-result c = search needs
 returns : tie.Need-returns Inv-loop μ-loop
 returns c = λ l. absurd (omega arith)
 
+add-result-2 : tie.Need-add-result-2 Inv-loop μ-loop
+add-result-2 c = search needs
+
+returns-2 : tie.Need-returns-2 Inv-loop μ-loop
+returns-2 c = λ l. absurd (omega arith)
+
 cast-links : tie.Need-cast-links Inv-loop μ-loop
 cast-links c = search needs
 
@@ -59,10 +65,10 @@ add-links c = search needs
 
 element-write-links : tie.Need-element-write-links Inv-loop μ-loop
 element-write-links c =
-    let h = c .before .before .before .before .before .before .before .loop in
-    let low = c .before .before .before .before .before .lowest-bit in
-    let a = c .before .before .before .before .before .before .before .before .before .args in
-    let pre = c .before .before .before .before .before .before .before .before .before .pre in
+    let h = c .before .before .before .before .before .before .before .before .loop in
+    let low = c .before .before .before .before .before .before .lowest-bit in
+    let a = c .before .before .before .before .before .before .before .before .before .before .args in
+    let pre = c .before .before .before .before .before .before .before .before .before .before .pre in
     let v = small-variable (a .states .now) (a .links .now) (a .count) (a .at) (a .leave) (h .states) (h .links) (h .more) (h .rest) (low .result) (getD (a .states .now) (a .at) 0) (h .inv .1) (low .ensures) (pre .2) (h .inv .0) in
     let below = pre .2 in
     let few = pre .3 in
@@ -76,27 +82,27 @@ larger-requires c κs = search needs
 
 loop-less : tie.Need-loop-less Inv-loop μ-loop
 loop-less c =
-    let h = c .before .before .before .before .before .before .before .before .loop in
-    let low = c .before .before .before .before .before .before .lowest-bit in
-    let less = rest-less (h .rest) (low .result) 64 (omega (arith, c .before .before .before .before .before .before .before .loop-test .taken)) (low .ensures) in
-    let is = c .before .before .before .before .before .without-bit .ensures in
+    let h = c .before .before .before .before .before .before .before .before .before .loop in
+    let low = c .before .before .before .before .before .before .before .lowest-bit in
+    let less = rest-less (h .rest) (low .result) 64 (omega (arith, c .before .before .before .before .before .before .before .before .loop-test .taken)) (low .ensures) in
+    let is = c .before .before .before .before .before .before .without-bit .ensures in
     omega arith
 
 loop-again : tie.Need-loop-again Inv-loop μ-loop
 loop-again c =
-    let h = c .before .before .before .before .before .before .before .before .loop in
-    let low = c .before .before .before .before .before .before .lowest-bit in
-    let a = c .before .before .before .before .before .before .before .before .before .before .args in
-    let pre = c .before .before .before .before .before .before .before .before .before .before .pre in
-    let to = c .before .before .put in
+    let h = c .before .before .before .before .before .before .before .before .before .loop in
+    let low = c .before .before .before .before .before .before .before .lowest-bit in
+    let a = c .before .before .before .before .before .before .before .before .before .before .before .args in
+    let pre = c .before .before .before .before .before .before .before .before .before .before .before .pre in
+    let to = c .before .before .before .put in
     let new = c .larger in
-    let inside = c .before .if1 .left in
+    let inside = c .before .before .if1 .left in
     let most = to .ensures .upTo in
     let few = h .inv .1 .few in
-    (h .inv .0, subst (Linking (a .states .now) (a .links .now) (a .count) (a .at) (a .leave) (to .last .0) (set (h .links) (linkAt (a .at) (low .result)) (to .result)) (new .result)) (sym (c .before .before .before .before .before .without-bit .ensures)) (linking-more (a .states .now) (a .links .now) (a .count) (a .at) (a .leave) (h .states) (h .links) (h .more) (h .rest) (low .result) (getD (a .states .now) (a .at) 0) (h .inv .1) (low .ensures) (pre .2) (h .inv .0) (to .last .0) (to .result) (new .result) (subst (λ (x : ℕ). Put (h .states) (h .more) x (to .last .0) (to .result)) (c .before .before .before .with-bit .ensures) (to .ensures)) (omega arith) (new .ensures .0) (new .ensures .1) (new .ensures .2 mostStates (omega arith) (omega arith))))
+    (h .inv .0, subst (Linking (a .states .now) (a .links .now) (a .count) (a .at) (a .leave) (to .last .0) (set (h .links) (linkAt (a .at) (low .result)) (to .result)) (new .result)) (sym (c .before .before .before .before .before .before .without-bit .ensures)) (linking-more (a .states .now) (a .links .now) (a .count) (a .at) (a .leave) (h .states) (h .links) (h .more) (h .rest) (low .result) (getD (a .states .now) (a .at) 0) (h .inv .1) (low .ensures) (pre .2) (h .inv .0) (to .last .0) (to .result) (new .result) (subst (λ (x : ℕ). Put (h .states) (h .more) x (to .last .0) (to .result)) (c .before .before .before .before .with-bit .ensures) (to .ensures)) (omega arith) (c .before .if2 .left) (new .ensures .0) (new .ensures .1) (new .ensures .2 mostStates (omega arith) (omega arith))))
 
-returns-2 : tie.Need-returns-2 Inv-loop μ-loop
-returns-2 c =
+returns-3 : tie.Need-returns-3 Inv-loop μ-loop
+returns-3 c =
     let a = c .before .before .before .args in
     let h = c .before .loop in
     λ l. linked-all (a .states .now) (a .links .now) (a .count) (a .at) (a .leave) (h .states) (h .links) (h .more) (h .rest) (c .loop-test .left) (h .inv .1)
@@ -116,6 +122,8 @@ link-spec =
     put-requires
     add-result
     returns
+    add-result-2
+    returns-2
     cast-links
     mul-links
     add-links
@@ -124,4 +132,4 @@ link-spec =
     larger-requires
     loop-less
     loop-again
-    returns-2)
+    returns-3)

@@ -1,7 +1,7 @@
 -- `sweep::list_states` meets its contract. The loop's invariant: the states before the place are linked.
 -- Assumes nothing.
 use native.Mathlib.Omega.{arith}
-use mathlib.Core.Path.{_≡_, sym, ap, subst, _∙_}
+use mathlib.Core.Path.{_≡_, sym, subst}
 use Prim.Native.Nat.{ℕ, _-_, _≤_, _<_, _^_}
 use lib.ListN.{getD}
 use Rattle.patterns.specs.Patterns.{mostVariables}

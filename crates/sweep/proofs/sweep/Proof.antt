@@ -3,7 +3,7 @@
 use native.Mathlib.Omega.{arith}
 use mathlib.Core.Path.{_≡_, sym, ap, subst, _∙_}
 use mathlib.Core.Bool.{false, true≢false}
-use Prim.Native.Nat.{ℕ, _-_, _≤_}
+use Prim.Native.Nat.{_-_, _≤_}
 use lib.ListN.{getD}
 use Rattle.records.specs.declared.Record.{Record}
 use Rattle.records.specs.Records.{recordAt, recordCount, eventKind}
@@ -118,6 +118,13 @@ first-open-requires c κs =
     let s = c .before .before .before .before .before .before .before .before .before .before .list-states in
     (omega arith, h .inv .1 .before, going-past (a .plan .now) (a .block .now) (a .n) (a .c) (a .duration) (c .before .before .before .before .before .before .before .before .before .before .before .before .before .before .before .before .before .before .pre .0) (c .before .before .before .before .before .before .before .before .is-free .result) (s .last .1 .1 .1 .0) (s .last .1 .1 .1 .1 .0) (s .result) (h .starts) (h .low) (h .j) (h .inv .1) (omega arith))
 
+cast-is-over-at : tie.Need-cast-is-over-at Inv-loop μ-loop
+cast-is-over-at c =
+    let records = c .before .before .before .before .before .before .before .before .before .before .before .before .before .before .before .before .before .before .before .before .before .before .pre .0 .records in
+    let here = c .before .before .before .before .before .before .before .before .before .loop-test .taken in
+    let up = c .before .before .before .first-open .ensures .upTo in
+    omega arith
+
 is-over-at-requires : tie.Need-is-over-at-requires Inv-loop μ-loop
 is-over-at-requires c κs =
     let a = c .before .before .before .before .before .before .before .before .before .before .before .before .before .before .before .before .before .before .before .before .before .before .args in
@@ -202,6 +209,7 @@ sweep-spec =
     loop-less-2
     loop-again-2
     first-open-requires
+    cast-is-over-at
     is-over-at-requires
     returns-2
     add-j-3
