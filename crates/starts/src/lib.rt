@@ -494,7 +494,8 @@ fn pass(p: patterns::Pattern, block: &[u8], most: usize, result: &mut [u8]) -> C
     ensures { λ o. ⌜ Passed p (now (block .entry)) most (length (now (result .entry))) (sinkOf (now (result .exit)) o) ⌝ }
 {
     let plan = firing::plan_of(p);
-    let cans = reach::all_can(&plan, p.n, p.c, block);
+    let mut cans = reach::no_cans();
+    reach::all_can(&plan, p.n, p.c, block, &mut cans);
     let quick = each_start(
         block,
         &plan,

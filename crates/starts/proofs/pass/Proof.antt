@@ -1,10 +1,11 @@
 -- `starts::pass` meets its contract: the plan is the pattern's, and the block's times rise. Assumes nothing.
-use mathlib.Core.Path.{refl, ap}
+use mathlib.Core.Path.{refl, ap, _∙_}
 use mathlib.Core.List.{List}
 use Prim.Native.Nat.{ℕ}
 use native.Mathlib.Omega.{arith}
+use lib.ListN.{length, length-replicate}
 use Rattle.records.specs.Records.{recordsOf}
-use Rattle.records.specs.Blocks.{InOrder as BlockInOrder}
+use Rattle.records.specs.Blocks.{InOrder as BlockInOrder, mostRecords}
 use Rattle.patterns.specs.declared.Pattern.{Pattern}
 use Rattle.patterns.specs.Checked.{InOrder}
 use Rattle.rule.specs.Starts.{foundAll}
@@ -48,18 +49,21 @@ no-floor plan block n c duration = record { few = omega arith; below = λ p o d 
 plan-of-requires : tie.Need-plan-of-requires
 plan-of-requires c κs = search needs
 
+no-cans-requires : tie.Need-no-cans-requires
+no-cans-requires c κs = search needs
+
 all-can-requires : tie.Need-all-can-requires
 all-can-requires c κs =
-    let st = c .before .before .before .before in
+    let st = c .before .before .before .before .before .before in
     let a = st .args in
-    let plan = c .before .plan-of in
-    usable (a .p) (a .block .now) (plan .result) (st .pre .0) (st .pre .1) (plan .ensures)
+    let plan = c .before .before .before .plan-of in
+    (usable (a .p) (a .block .now) (plan .result) (st .pre .0) (st .pre .1) (plan .ensures), ap length (c .before .before .no-cans .ensures) ∙ length-replicate {A = ℕ} mostRecords 0)
 
 each-start-requires : tie.Need-each-start-requires
 each-start-requires c κs =
-    let st = c .before .before .before .before .before .before .before .before in
+    let st = c .before .before .before .before .before .before .before .before .before .before in
     let a = st .args in
-    let plan = c .before .before .before .before .before .plan-of in
+    let plan = c .before .before .before .before .before .before .before .plan-of in
     (usable (a .p) (a .block .now) (plan .result) (st .pre .0) (st .pre .1) (plan .ensures), c .before .before .before .all-can .ensures, no-floor (plan .result) (a .block .now) (a .p .n) (a .p .c) (a .p .duration), omega arith)
 
 same-length : tie.Need-same-length
@@ -67,9 +71,9 @@ same-length c = search needs
 
 returns : tie.Need-returns
 returns c =
-    let st = c .before .before .before .before .before .before .before .before .before .before .before .before .before in
+    let st = c .before .before .before .before .before .before .before .before .before .before .before .before .before .before .before in
     let a = st .args in
-    let plan = c .before .before .before .before .before .before .before .before .before .before .plan-of in
+    let plan = c .before .before .before .before .before .before .before .before .before .before .before .before .plan-of in
     let run = c .before .before .before .before .each-start .ensures in
     record {
       memory = a .result .now;
@@ -79,9 +83,9 @@ returns c =
 
 sweep-requires : tie.Need-sweep-requires
 sweep-requires c κs =
-    let st = c .before .before .before .before .before .before .before .before .before .before .before .before .before .before .before in
+    let st = c .before .before .before .before .before .before .before .before .before .before .before .before .before .before .before .before .before in
     let a = st .args in
-    let plan = c .before .before .before .before .before .before .before .before .before .before .before .before .plan-of in
+    let plan = c .before .before .before .before .before .before .before .before .before .before .before .before .before .before .plan-of in
     (usable (a .p) (a .block .now) (plan .result) (st .pre .0) (st .pre .1) (plan .ensures), c .before .before .before .before .before .before .before .before .before .before .all-can .ensures)
 
 decided-requires : tie.Need-decided-requires
@@ -92,9 +96,9 @@ same-length-2 c = search needs
 
 returns-2 : tie.Need-returns-2
 returns-2 c =
-    let st = c .before .before .before .before .before .before .before .before .before .before .before .before .before .before .before .before .before .before in
+    let st = c .before .before .before .before .before .before .before .before .before .before .before .before .before .before .before .before .before .before .before .before in
     let a = st .args in
-    let plan = c .before .before .before .before .before .before .before .before .before .before .before .before .before .before .before .plan-of in
+    let plan = c .before .before .before .before .before .before .before .before .before .before .before .before .before .before .before .before .before .plan-of in
     let swept = c .before .before .sweep in
     let reached = swept .ensures .1 (c .before .if2 .taken) in
     let run = c .before .before .before .before .before .before .before .before .before .each-start in
@@ -112,9 +116,9 @@ returns-2 c =
 
 each-start-requires-2 : tie.Need-each-start-requires-2
 each-start-requires-2 c κs =
-    let st = c .before .before .before .before .before .before .before .before .before .before .before .before .before .before .before .before .before .before .before .before in
+    let st = c .before .before .before .before .before .before .before .before .before .before .before .before .before .before .before .before .before .before .before .before .before .before in
     let a = st .args in
-    let plan = c .before .before .before .before .before .before .before .before .before .before .before .before .before .before .before .before .before .plan-of in
+    let plan = c .before .before .before .before .before .before .before .before .before .before .before .before .before .before .before .before .before .before .before .plan-of in
     (usable (a .p) (a .block .now) (plan .result) (st .pre .0) (st .pre .1) (plan .ensures), c .before .before .before .before .before .before .before .before .before .before .before .before .before .before .before .all-can .ensures, c .before .before .before .before .sweep .ensures .0, omega arith)
 
 same-length-3 : tie.Need-same-length-3
@@ -122,9 +126,9 @@ same-length-3 c = search needs
 
 returns-3 : tie.Need-returns-3
 returns-3 c =
-    let st = c .before .before .before .before .before .before .before .before .before .before .before .before .before .before .before .before .before .before .before .before .before .before .before in
+    let st = c .before .before .before .before .before .before .before .before .before .before .before .before .before .before .before .before .before .before .before .before .before .before .before .before .before in
     let a = st .args in
-    let plan = c .before .before .before .before .before .before .before .before .before .before .before .before .before .before .before .before .before .before .before .before .plan-of in
+    let plan = c .before .before .before .before .before .before .before .before .before .before .before .before .before .before .before .before .before .before .before .before .before .before .plan-of in
     let first = c .before .before .before .before .before .before .before .before .before .before .before .before .before .before .each-start in
     let run = c .before .before .each-start2 .ensures in
     record {
@@ -138,6 +142,7 @@ pass-spec =
     tie.close
     (tie.spec
     plan-of-requires
+    no-cans-requires
     all-can-requires
     each-start-requires
     same-length
