@@ -53,6 +53,19 @@ reads-later n j i slot h r =
 pub few-bits : (n firing : ℕ) → n ≤ mostVariables → firing < 2 ^ n → firing < 2 ^ mostVariables
 few-bits n firing few h = lt-of-lt-of-le h (pow-mono few)
 
+-- what a copy of a slot grows to
+pub loaded :
+    (slot copy more : List ℕ) (j v : ℕ) → copy ≡ slot
+    → (heldIn more ≡ grow j v (heldIn copy)) × (length more ≡ slotBytes) × (countIn more ≡ countIn copy + 1)
+    → (heldIn more ≡ grow j v (heldIn slot)) × (length more ≡ slotBytes) × (countIn more ≡ countIn slot + 1)
+loaded slot copy more j v e =
+    subst
+    (λ (x : List ℕ).
+    (heldIn more ≡ grow j v (heldIn copy)) × (length more ≡ slotBytes) × (countIn more ≡ countIn copy + 1)
+    → (heldIn more ≡ grow j v (heldIn x)) × (length more ≡ slotBytes) × (countIn more ≡ countIn x + 1))
+    e
+    (λ g. g)
+
 -- ## What was looked at, in parts
 
 module _ (Q : Pattern → Type 0) (most limit : ℕ) where

@@ -250,19 +250,19 @@ fn skip(
     block: &[u8],
     plan: &[u64; firing::PLAN_ROOM],
     cans: &[u16; records::MOST_RECORDS],
-    slot: slots::Slot,
+    slot: &[u8],
     j: usize,
     v: usize,
     s: reach::Start,
     result: &mut [u8],
     counts: Counts,
 ) -> Counts
-    requires { ⌜ (Taking (now plan) (now block) s (slot .bytes) j v)
+    requires { ⌜ (Taking (now plan) (now block) s (now slot) j v)
         × Cans (now plan) (now block) (s .n) (s .c) (now cans) ⌝ }
-    ensures { λ o. ⌜ Skipped (now (plan .entry)) (now (block .entry)) s (slot .bytes) j v
+    ensures { λ o. ⌜ Skipped (now (plan .entry)) (now (block .entry)) s (now (slot .entry)) j v
         (sinkOf (now (result .entry)) counts) (sinkOf (now (result .exit)) o) ⌝ }
 {
-    let mut bytes = slot.bytes;
+    let mut bytes = slots::load(slot);
     slots::bind(&mut bytes, j, v);
     let fire = reach::next_fire(block, plan, cans, s, j + 1, &bytes);
     if fire.at == s.until {
@@ -292,7 +292,7 @@ fn skip(
         block,
         plan,
         cans,
-        slots::Slot { bytes },
+        &bytes,
         fire.at,
         fire.variables,
         s,
@@ -306,16 +306,16 @@ fn branch(
     block: &[u8],
     plan: &[u64; firing::PLAN_ROOM],
     cans: &[u16; records::MOST_RECORDS],
-    slot: slots::Slot,
+    slot: &[u8],
     j: usize,
     firing: u64,
     s: reach::Start,
     result: &mut [u8],
     counts: Counts,
 ) -> Counts
-    requires { ⌜ (Branching (now plan) (now block) s (slot .bytes) j firing)
+    requires { ⌜ (Branching (now plan) (now block) s (now slot) j firing)
         × Cans (now plan) (now block) (s .n) (s .c) (now cans) ⌝ }
-    ensures { λ o. ⌜ Branched (now (plan .entry)) (now (block .entry)) s (slot .bytes) j firing
+    ensures { λ o. ⌜ Branched (now (plan .entry)) (now (block .entry)) s (now (slot .entry)) j firing
         (sinkOf (now (result .entry)) counts) (sinkOf (now (result .exit)) o) ⌝ }
 {
     let mut taken = counts;
@@ -432,7 +432,6 @@ fn each_start(
     };
     let first = reach::leaving(plan, n, 0);
     let empty = slots::empty_slot();
-    let none = slots::Slot { bytes: empty };
     let count = block.len() / records::RECORD_BYTES;
     let mut opened = 0;
     let mut i = 0;
@@ -465,7 +464,7 @@ fn each_start(
                 continue;
             }
         }
-        counts = branch(block, plan, cans, none, i, firing, s, result, counts);
+        counts = branch(block, plan, cans, &empty, i, firing, s, result, counts);
         if GIVE_UP <= counts.steps {
             return counts;
         }

@@ -19,10 +19,10 @@ use Rattle.starts.proofs.each_start.Statement.{statement}
 use Rattle.starts.proofs.each_start.Tie as tie
 
 abbrev Inv-loop : tie.InvT-loop
-Inv-loop block plan n c duration cans floor most limit result₀ counts₀ first empty none count opened₀ i₀ result counts opened i = (i ≤ count) × (count ≡ recordCount block) × (length result ≡ length result₀) × Left plan block n c duration most i (sinkOf result₀ noneYet) (sinkOf result counts) × (counts .steps < giveUp) × (opened ≤ count) × OpenTo block duration i opened
+Inv-loop block plan n c duration cans floor most limit result₀ counts₀ first empty count opened₀ i₀ result counts opened i = (i ≤ count) × (count ≡ recordCount block) × (length result ≡ length result₀) × Left plan block n c duration most i (sinkOf result₀ noneYet) (sinkOf result counts) × (counts .steps < giveUp) × (opened ≤ count) × OpenTo block duration i opened
 
 abbrev μ-loop : tie.MeasureT-loop
-μ-loop block plan n c duration cans floor most limit result₀ counts₀ first empty none count opened₀ i₀ result counts opened i = count - i
+μ-loop block plan n c duration cans floor most limit result₀ counts₀ first empty count opened₀ i₀ result counts opened i = count - i
 
 leaving-requires : tie.Need-leaving-requires Inv-loop μ-loop
 leaving-requires c κs = let usable = c .before .before .pre .0 in (usable .sound .size, usable .variables)
@@ -190,18 +190,21 @@ loop-again-3 c =
       open-later (a .block .now) (a .duration) (h .i) (w .result .until) (st .pre .0 .rising) (w .ensures .block) (w .ensures .opened),
     )
 
+slice-aggregate-branch : tie.Need-slice-aggregate-branch Inv-loop μ-loop
+slice-aggregate-branch c = search needs
+
 branch-requires : tie.Need-branch-requires Inv-loop μ-loop
 branch-requires c κs =
-    let st = c .before .before .before .before .before .before .before .before .before .before .before .before .before .before .before .before .before in
+    let st = c .before .before .before .before .before .before .before .before .before .before .before .before .before .before .before .before .before .before in
     let a = st .args in
-    let h = c .before .before .before .before .before .before .before .before .before .before .before .before .loop in
-    let inside = c .before .before .before .before .before .before .before .before .before .before .before .loop-test .taken in
-    let first = c .before .before .before .before .before .before .before .before .before .before .before .before .before .before .leaving in
-    let empty = c .before .before .before .before .before .before .before .before .before .before .before .before .before .empty-slot in
-    let w = c .before .before .before .before .before .window-at in
-    let event = c .before .before .before .before .before .before .if2 .left in
-    let some = c .before .before .before .before .before .before .before .before .before .if1 .left in
-    let kind = ap (λ (x : Record). x .kind) (c .before .before .before .before .before .before .before .before .unpack .ensures) in
+    let h = c .before .before .before .before .before .before .before .before .before .before .before .before .before .loop in
+    let inside = c .before .before .before .before .before .before .before .before .before .before .before .before .loop-test .taken in
+    let first = c .before .before .before .before .before .before .before .before .before .before .before .before .before .before .before .leaving in
+    let empty = c .before .before .before .before .before .before .before .before .before .before .before .before .before .before .empty-slot in
+    let w = c .before .before .before .before .before .before .window-at in
+    let event = c .before .before .before .before .before .before .before .if2 .left in
+    let some = c .before .before .before .before .before .before .before .before .before .before .if1 .left in
+    let kind = ap (λ (x : Record). x .kind) (c .before .before .before .before .before .before .before .before .before .unpack .ensures) in
     let is = first-read (a .plan .now) (a .block .now) (a .n) (a .c) (st .pre .0 .variables) (a .cans .now) (st .pre .1) (h .i) inside (first .result) (first .ensures) in (
       start-branching (a .plan .now) (a .block .now) (a .n) (a .c) (a .duration) (a .most) (h .i) (st .pre .0) inside (bitAnd (getD (a .cans .now) (h .i) 0) (first .result)) is (sym kind ∙ event) (empty .result) (empty .ensures .0)
           (record {
@@ -219,15 +222,15 @@ branch-requires c κs =
     )
 
 same-length : tie.Need-same-length Inv-loop μ-loop
-same-length c = c .before .before .before .before .branch .kept .1 .1 .1 .1 .1 .1 .1 .0 ∙ c .before .before .before .before .before .before .before .before .before .before .before .before .before .before .before .before .before .loop .inv .2
+same-length c = c .before .before .before .before .branch .kept .1 .1 .1 .1 .1 .1 .1 .0 ∙ c .before .before .before .before .before .before .before .before .before .before .before .before .before .before .before .before .before .before .loop .inv .2
 
 returns : tie.Need-returns Inv-loop μ-loop
 returns c =
     let call = c .before .before .before .before .branch in
-    let begun = c .before .before .before .before .before .before .before .before .begun in
+    let begun = c .before .before .before .before .before .before .before .before .before .begun in
     let none = ap (λ (x : Counts). x .steps) (begun .ensures) in
-    let few = c .before .before .before .before .before .before .before .before .before .first-steps .ensures in
-    let least = c .before .before .before .before .before .before .before .before .before .before .before .before .before .before .before .before .before .before .before .before .before .before .pre .3 in
+    let few = c .before .before .before .before .before .before .before .before .before .before .first-steps .ensures in
+    let least = c .before .before .before .before .before .before .before .before .before .before .before .before .before .before .before .before .before .before .before .before .before .before .before .pre .3 in
     let many = c .if5 .taken in
     record {
       bounded = λ small. let end = call .ensures .led .bounded (omega arith) in absurd (omega arith);
@@ -235,31 +238,31 @@ returns c =
     }
 
 add-i-4 : tie.Need-add-i-4 Inv-loop μ-loop
-add-i-4 c = omega (arith, c .before .before .before .before .before .before .before .before .before .before .before .before .before .before .before .before .loop-test .taken, c .before .before .before .before .before .before .before .before .before .before .before .before .before .before .before .before .before .before .before .before .before .before .pre .0 .records)
+add-i-4 c = omega (arith, c .before .before .before .before .before .before .before .before .before .before .before .before .before .before .before .before .before .loop-test .taken, c .before .before .before .before .before .before .before .before .before .before .before .before .before .before .before .before .before .before .before .before .before .before .before .pre .0 .records)
 
 loop-less-4 : tie.Need-loop-less-4 Inv-loop μ-loop
 loop-less-4 c = search needs
 
 loop-again-4 : tie.Need-loop-again-4 Inv-loop μ-loop
 loop-again-4 c =
-    let st = c .before .before .before .before .before .before .before .before .before .before .before .before .before .before .before .before .before .before .before .before .before .before in
+    let st = c .before .before .before .before .before .before .before .before .before .before .before .before .before .before .before .before .before .before .before .before .before .before .before in
     let a = st .args in
-    let h = c .before .before .before .before .before .before .before .before .before .before .before .before .before .before .before .before .before .loop in
-    let inside = c .before .before .before .before .before .before .before .before .before .before .before .before .before .before .before .before .loop-test .taken in
-    let first = c .before .before .before .before .before .before .before .before .before .before .before .before .before .before .before .before .before .before .before .leaving in
-    let empty = c .before .before .before .before .before .before .before .before .before .before .before .before .before .before .before .before .before .before .empty-slot in
-    let w = c .before .before .before .before .before .before .before .before .before .before .window-at in
-    let event = c .before .before .before .before .before .before .before .before .before .before .before .if2 .left in
-    let some = c .before .before .before .before .before .before .before .before .before .before .before .before .before .before .if1 .left in
-    let kind = ap (λ (x : Record). x .kind) (c .before .before .before .before .before .before .before .before .before .before .before .before .before .unpack .ensures) in
+    let h = c .before .before .before .before .before .before .before .before .before .before .before .before .before .before .before .before .before .before .loop in
+    let inside = c .before .before .before .before .before .before .before .before .before .before .before .before .before .before .before .before .before .loop-test .taken in
+    let first = c .before .before .before .before .before .before .before .before .before .before .before .before .before .before .before .before .before .before .before .before .leaving in
+    let empty = c .before .before .before .before .before .before .before .before .before .before .before .before .before .before .before .before .before .before .before .empty-slot in
+    let w = c .before .before .before .before .before .before .before .before .before .before .before .window-at in
+    let event = c .before .before .before .before .before .before .before .before .before .before .before .before .if2 .left in
+    let some = c .before .before .before .before .before .before .before .before .before .before .before .before .before .before .before .if1 .left in
+    let kind = ap (λ (x : Record). x .kind) (c .before .before .before .before .before .before .before .before .before .before .before .before .before .before .unpack .ensures) in
     let is = first-read (a .plan .now) (a .block .now) (a .n) (a .c) (st .pre .0 .variables) (a .cans .now) (st .pre .1) (h .i) inside (first .result) (first .ensures) in
-    let begun = c .before .before .before .before .before .before .before .before .begun in
+    let begun = c .before .before .before .before .before .before .before .before .before .begun in
     let now = sinkOf (h .result) (h .counts) in
     let then = sinkOf (h .result) (begun .result) in
     let left = left-begun (a .plan .now) (a .block .now) (a .n) (a .c) (a .duration) (a .most) (sinkOf (a .result .now) noneYet) (h .i) now (h .inv .3) then refl
     (ap (λ (x : Counts). x .used) (begun .ensures)) (ap (λ (x : Counts). x .readings) (begun .ensures)) (ap (λ (x : Counts). x .least) (begun .ensures)) in
     let zero = ap (λ (x : Counts). x .steps) (begun .ensures) in
-    let few = c .before .before .before .before .before .before .before .before .before .first-steps .ensures in
+    let few = c .before .before .before .before .before .before .before .before .before .before .first-steps .ensures in
     let call = c .before .before .before .before .branch in
     let ended : call .result .steps < giveUp = omega (arith, c .if5 .left) in
     let after = sinkOf (call .last .1 .1 .1 .1 .1 .1 .1 .0) (call .result) in
@@ -322,6 +325,7 @@ each-start-spec =
     add-i-3
     loop-less-3
     loop-again-3
+    slice-aggregate-branch
     branch-requires
     same-length
     returns
