@@ -19,8 +19,9 @@
  *               The pattern and the block may overlap each other.
  *   State       There is none: the same bytes get the same answer. Calls may run side by side, in threads or from
  *               several cores, as long as no slice that one of them writes overlaps a slice of another.
- *   Input       Any bytes at all get an answer, and every call ends: nothing has to be checked first. The number of
- *               readings of a pattern decides how long a pass takes; only the forward pass has a limit to it.
+ *   Input       Any bytes at all get an answer, and every call ends: nothing has to be checked first. The readings of
+ *               a pattern decide how long a pass takes. The forward pass has a limit to them; the start-by-start pass
+ *               looks no further than its answer needs, which with conditions between variables can still be far.
  *   Stack       SPALDEP_STACK_FORWARD bytes do for every call but spaldep_start_by_start, which needs up to
  *               SPALDEP_STACK_START_BY_START.
  *
@@ -161,8 +162,9 @@ uint64_t spaldep_forward(const uint8_t *pattern, size_t pattern_len, const uint8
 
 /*
  * The start-by-start pass: all readings that begin at a record, then those of the next. It reports the same readings
- * as the forward pass, in the same numbers. It has no limit of live readings, and a pattern whose steps branch often
- * can make it take very long.
+ * as the forward pass, in the same numbers. It has no limit of live readings, and stops looking where nothing that it
+ * could find changes its answer. A pattern whose steps branch often, and which has conditions between variables, can
+ * still make it take very long: docs/MANUAL.md, "What a pass costs", has an example and what to do.
  *
  *   result   as for spaldep_forward
  *
