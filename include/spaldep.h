@@ -87,7 +87,7 @@ enum {
 
 /* Stack that a call needs at most, in bytes: what bench/run measured, rounded up; tests/run holds the library to it. */
 #define SPALDEP_STACK_FORWARD 4096u
-#define SPALDEP_STACK_START_BY_START 36864u
+#define SPALDEP_STACK_START_BY_START 45056u
 
 /*
  * Checks a pattern of pattern_len bytes. Its fields, from the most significant bit on:
