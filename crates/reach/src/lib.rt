@@ -96,7 +96,12 @@ fn firing_of(
 }
 
 // The next record at which one of the variables can fire by its own conditions, or the end.
-fn next_can(cans: &[u16; records::MOST_RECORDS], variables: u64, from: usize, end: usize) -> usize
+pub fn next_can(
+    cans: &[u16; records::MOST_RECORDS],
+    variables: u64,
+    from: usize,
+    end: usize,
+) -> usize
     requires { ⌜ (from ≤ end) × (end ≤ mostRecords) × (length (now cans) ≡ mostRecords)
         × ((i : ℕ) → i < end → getD (now cans) i 0 < 2 ^ mostVariables) ⌝ }
     ensures { λ r. ⌜ NextCan (now (cans .entry)) variables from end r ⌝ }

@@ -1,11 +1,12 @@
 -- One start after another: what each way out of a start comes to, and what is left to be done. Assumes nothing.
 use mathlib.Core.Path.{_≡_, sym, ap, subst, _∙_}
 use mathlib.Core.List.{List, [], List·Memᴰ}
-use Prim.Native.Nat.{ℕ, suc, _+_, _-_, _/_, _≤_, _<_, _^_}
+use Prim.Native.Nat.{ℕ, zero, suc, _+_, _-_, _/_, _≤_, _<_, _^_}
 use native.Mathlib.Numerals.{add-one}
 use native.Mathlib.Omega.{arith}
 use lib.Dec.{eqb}
-use lib.ListN.{length}
+use lib.Bits.{bitAnd}
+use lib.ListN.{length, getD}
 use borrow.Author.Tests.{eqb-true, eqb-false}
 use Rattle.numbers.proofs.Cases.{by-test}
 use Rattle.records.specs.Records.{recordAt, recordCount, recordsOf, eventKind}
@@ -23,13 +24,14 @@ use Rattle.starts.specs.declared.Counts.{Counts}
 use Rattle.starts.specs.declared.Window.{Window}
 use Rattle.starts.specs.Sinks.{Sink, sinkOf, stop, emits, Same}
 use Rattle.starts.specs.Sinks.Same.{equal}
-use Rattle.reach.specs.Readings.{firingBy, Usable, Of}
-use Rattle.starts.specs.Skips.{By, Firing, Branching, Settled, giveUp, Branched, branchOver, WindowIs, AllStarted}
+use Rattle.reach.specs.Readings.{firingBy, leavingBy, Cans, Usable, Of}
+use Rattle.reach.proofs.Masks.{first-read}
+use Rattle.starts.specs.Skips.{By, Firing, Branching, Settled, giveUp, Branched, branchOver, OpenTo, WindowIs, AllStarted}
 use Rattle.sweep.specs.Floors.{Floor}
 use Rattle.starts.proofs.Sinks.{emits-append}
 use Rattle.starts.proofs.Same.{same-refl, same-trans, same-emits, cut}
 use Rattle.reach.proofs.Readings.{nothing, firing-begins, firing-bound, empty-reads}
-use Rattle.starts.proofs.Windows.{is-event, is-gap}
+use Rattle.starts.proofs.Windows.{is-event, is-gap, open-later}
 use Rattle.reach.proofs.MaskInTurn.{turn-none, mask-turn, low-bits}
 use Rattle.starts.proofs.Skips.{few-bits, all-taken, settled-idle}
 
@@ -277,3 +279,39 @@ module _ (plan bytes : List ℕ) (n c duration most : ℕ) (none : Sink) where
               subst (λ (k : List Found). Same most (emits now k) (emits none (foundAll p (recordsOf bytes)))) (found-end p (recordsOf bytes) i (recordCount bytes) l)
               (left .found p o d);
         }
+
+-- records at which no reading begins are passed
+pub left-passed :
+    (plan bytes : List ℕ) (n c duration most : ℕ) → Usable plan bytes n c → (none now : Sink) (cans : List ℕ)
+    → Cans plan bytes n c cans
+    → (first : ℕ) → first ≡ leavingBy plan n 0
+    → (d i : ℕ) → i + d ≤ recordCount bytes
+    → ((k : ℕ) → i ≤ k → k < i + d → bitAnd (getD cans k 0) first ≡ 0)
+    → Left plan bytes n c duration most i none now
+    → Left plan bytes n c duration most (i + d) none now
+left-passed plan bytes n c duration most usable none now cans settled first is zero i l h left =
+    let e : i ≡ i + 0 = omega arith in
+    subst (λ (k : ℕ). Left plan bytes n c duration most k none now) e left
+left-passed plan bytes n c duration most usable none now cans settled first is (suc d) i l h left =
+    let e : i + 1 + d ≡ i + suc d = omega arith in
+    let inside : i < recordCount bytes = omega arith in
+    let read = first-read plan bytes n c (usable .variables) cans settled i inside first is in
+    let done = started-none plan bytes n c duration most i usable inside (bitAnd (getD cans i 0) first) read (h i (omega arith) (omega arith)) now in
+    subst (λ (k : ℕ). Left plan bytes n c duration most k none now) e
+    (left-passed plan bytes n c duration most usable none now cans settled first is d (i + 1) (omega arith) (λ k a b. h k (omega arith) (omega arith))
+    (left-more plan bytes n c duration most none i now left inside now done))
+
+-- and what is open from the first of them is open from the one behind them
+pub open-passed :
+    (bytes : List ℕ) (duration opened : ℕ)
+    → ((i : ℕ) → suc i < recordCount bytes → recordAt bytes i .time < recordAt bytes (suc i) .time)
+    → opened ≤ recordCount bytes
+    → (d i : ℕ) → OpenTo bytes duration i opened
+    → OpenTo bytes duration (i + d) opened
+open-passed bytes duration opened rising few zero i near =
+    let e : i ≡ i + 0 = omega arith in
+    subst (λ (k : ℕ). OpenTo bytes duration k opened) e near
+open-passed bytes duration opened rising few (suc d) i near =
+    let e : i + 1 + d ≡ i + suc d = omega arith in
+    subst (λ (k : ℕ). OpenTo bytes duration k opened) e
+    (open-passed bytes duration opened rising few d (i + 1) (open-later bytes duration i opened rising few near))

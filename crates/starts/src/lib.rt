@@ -438,7 +438,7 @@ fn each_start(
     while i < count {
         let firing = cans[i] as u64 & first;
         if firing == 0 {
-            i += 1;
+            i = reach::next_can(cans, first, i + 1, count);
             continue;
         }
         if records::unpack(block, i).kind != records::EVENT {

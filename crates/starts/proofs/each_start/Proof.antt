@@ -2,10 +2,11 @@
 -- firing variable in turn. Assumes nothing.
 use native.Mathlib.Omega.{arith}
 use borrow.Author.Needs.{needs}
-use mathlib.Core.Path.{_≡_, refl, sym, ap, _∙_}
-use Prim.Native.Nat.{ℕ, _-_, _≤_, _<_}
+use mathlib.Core.Path.{_≡_, refl, sym, ap, subst, _∙_}
+use Prim.Native.Nat.{ℕ, _+_, _-_, _≤_, _<_}
 use lib.Bits.{bitAnd}
 use lib.ListN.{length, getD}
+use Rattle.numbers.proofs.Cases.{by-order}
 use Rattle.records.specs.declared.Record.{Record}
 use Rattle.records.specs.Records.{recordCount}
 use Rattle.starts.specs.declared.Counts.{Counts}
@@ -13,8 +14,8 @@ use Rattle.starts.specs.Sinks.{sinkOf, noneYet}
 use Rattle.starts.specs.Skips.{OpenTo, giveUp, AllStarted}
 use Rattle.reach.proofs.Masks.{read-bound, first-read}
 use Rattle.starts.proofs.Windows.{open-none, open-later}
-use Rattle.starts.proofs.Starts.{started-gap, started-none, start-branching, started-settled, started-branch, Left, left-all}
-use Rattle.starts.proofs.Starts.{left-more, left-begun, left-none}
+use Rattle.starts.proofs.Starts.{started-gap, start-branching, started-settled, started-branch, Left, left-all}
+use Rattle.starts.proofs.Starts.{left-more, left-begun, left-none, left-passed, open-passed}
 use Rattle.starts.proofs.each_start.Statement.{statement}
 use Rattle.starts.proofs.each_start.Tie as tie
 
@@ -49,36 +50,56 @@ cast-firing c =
     let small = read-bound (a .plan .now) (a .block .now) (a .n) (a .c) (st .pre .0 .variables) (a .cans .now) (st .pre .1) (h .i) (c .before .loop-test .taken) in
     omega arith
 
-add-i : tie.Need-add-i Inv-loop μ-loop
-add-i c = search needs
+add-next-can : tie.Need-add-next-can Inv-loop μ-loop
+add-next-can c = omega (arith, c .before .before .loop-test .taken, c .before .before .before .before .before .before .before .before .pre .0 .records)
+
+next-can-requires : tie.Need-next-can-requires Inv-loop μ-loop
+next-can-requires c κs =
+    let st = c .before .before .before .before .before .before .before .before in
+    let a = st .args in
+    let records = st .pre .0 .records in
+    let inside = c .before .before .loop-test .taken in
+    let is = c .before .before .before .loop .inv .1 in
+    (omega arith, omega arith, st .pre .1 .size, λ k l. read-bound (a .plan .now) (a .block .now) (a .n) (a .c) (st .pre .0 .variables) (a .cans .now) (st .pre .1) k (omega arith))
 
 loop-less : tie.Need-loop-less Inv-loop μ-loop
-loop-less c = search needs
+loop-less c =
+    let next = c .next-can .ensures in
+    let from = next .from in
+    let upTo = next .upTo in
+    let inside = c .before .before .before .loop-test .taken in
+    omega arith
 
 loop-again : tie.Need-loop-again Inv-loop μ-loop
 loop-again c =
-    let st = c .before .before .before .before .before .before .before .before in
+    let st = c .before .before .before .before .before .before .before .before .before in
     let a = st .args in
-    let h = c .before .before .before .loop in
-    let inside = c .before .before .loop-test .taken in
-    let first = c .before .before .before .before .before .leaving in
+    let h = c .before .before .before .before .loop in
+    let first = c .before .before .before .before .before .before .leaving in
+    let next = c .next-can in
+    let from = next .ensures .from in
+    let upTo = next .ensures .upTo in
+    let count = h .inv .1 in
     let now = sinkOf (h .result) (h .counts) in
-    let is = first-read (a .plan .now) (a .block .now) (a .n) (a .c) (st .pre .0 .variables) (a .cans .now) (st .pre .1) (h .i) inside (first .result) (first .ensures) in
-    let done = started-none (a .plan .now) (a .block .now) (a .n) (a .c) (a .duration) (a .most) (h .i) (st .pre .0) inside (bitAnd (getD (a .cans .now) (h .i) 0) (first .result)) is (c .if1 .taken) now in (
-      search needs,
+    let e : h .i + (next .result - h .i) ≡ next .result = omega arith in (
+      upTo,
       refl,
       h .inv .2,
-      left-more (a .plan .now) (a .block .now) (a .n) (a .c) (a .duration) (a .most) (sinkOf (a .result .now) noneYet) (h .i) now (h .inv .3) inside now done,
+      subst (λ (k : ℕ). Left (a .plan .now) (a .block .now) (a .n) (a .c) (a .duration) (a .most) k (sinkOf (a .result .now) noneYet) now) e
+          (left-passed (a .plan .now) (a .block .now) (a .n) (a .c) (a .duration) (a .most) (st .pre .0) (sinkOf (a .result .now) noneYet) now (a .cans .now) (st .pre .1) (first .result) (first .ensures) (next .result - h .i) (h .i) (omega arith)
+          (λ k x y. by-order (h .i) k (λ l. next .ensures .passed k (omega arith) (omega arith)) (λ l. (let z : k ≡ h .i = omega arith in ap (λ (q : ℕ). bitAnd (getD (a .cans .now) q 0) (first .result)) z ∙ c .before .if1 .taken)))
+          (h .inv .3)),
       h .inv .4,
       h .inv .5,
-      open-later (a .block .now) (a .duration) (h .i) (h .opened) (st .pre .0 .rising) (h .inv .5) (h .inv .6),
+      subst (λ (k : ℕ). OpenTo (a .block .now) (a .duration) k (h .opened)) e
+          (open-passed (a .block .now) (a .duration) (h .opened) (st .pre .0 .rising) (omega (arith, h .inv .5)) (next .result - h .i) (h .i) (h .inv .6)),
     )
 
 unpack-requires : tie.Need-unpack-requires Inv-loop μ-loop
 unpack-requires c κs = search needs
 
-add-i-2 : tie.Need-add-i-2 Inv-loop μ-loop
-add-i-2 c = search needs
+add-i : tie.Need-add-i Inv-loop μ-loop
+add-i c = search needs
 
 loop-less-2 : tie.Need-loop-less-2 Inv-loop μ-loop
 loop-less-2 c = search needs
@@ -142,8 +163,8 @@ is-settled-requires c κs =
     (w .result) (w .ensures) refl (empty .ensures .1) (empty .ensures .2) some (st .pre .2) in
     (at .fire .ready, st .pre .1, at .above)
 
-add-i-3 : tie.Need-add-i-3 Inv-loop μ-loop
-add-i-3 c = search needs
+add-i-2 : tie.Need-add-i-2 Inv-loop μ-loop
+add-i-2 c = search needs
 
 loop-less-3 : tie.Need-loop-less-3 Inv-loop μ-loop
 loop-less-3 c = search needs
@@ -237,8 +258,8 @@ returns c =
       found = λ few p o d. absurd (omega arith);
     }
 
-add-i-4 : tie.Need-add-i-4 Inv-loop μ-loop
-add-i-4 c = omega (arith, c .before .before .before .before .before .before .before .before .before .before .before .before .before .before .before .before .before .loop-test .taken, c .before .before .before .before .before .before .before .before .before .before .before .before .before .before .before .before .before .before .before .before .before .before .before .pre .0 .records)
+add-i-3 : tie.Need-add-i-3 Inv-loop μ-loop
+add-i-3 c = omega (arith, c .before .before .before .before .before .before .before .before .before .before .before .before .before .before .before .before .before .loop-test .taken, c .before .before .before .before .before .before .before .before .before .before .before .before .before .before .before .before .before .before .before .before .before .before .before .pre .0 .records)
 
 loop-less-4 : tie.Need-loop-less-4 Inv-loop μ-loop
 loop-less-4 c = search needs
@@ -310,11 +331,12 @@ each-start-spec =
     mul-firing
     element-copy-out-firing
     cast-firing
-    add-i
+    add-next-can
+    next-can-requires
     loop-less
     loop-again
     unpack-requires
-    add-i-2
+    add-i
     loop-less-2
     loop-again-2
     window-at-requires
@@ -322,14 +344,14 @@ each-start-spec =
     begun-requires
     slice-aggregate-is-settled
     is-settled-requires
-    add-i-3
+    add-i-2
     loop-less-3
     loop-again-3
     slice-aggregate-branch
     branch-requires
     same-length
     returns
-    add-i-4
+    add-i-3
     loop-less-4
     loop-again-4
     same-length-2
