@@ -116,8 +116,8 @@ pub fn next_can(
     i
 }
 
-// Skips to the next record from j on that fires; to the record at which the reading closes, where none does, and at once
-// where no variable leaves the reading's state.
+// Skips to the next record from j on that fires; to the record at which the reading closes, where none does, and at
+// once where no variable leaves the reading's state.
 pub fn next_fire(
     block: &[u8],
     plan: &[u64; firing::PLAN_ROOM],

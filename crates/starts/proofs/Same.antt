@@ -103,7 +103,9 @@ module _ (most : ℕ) where
   pub same-refl : (s : Sink) → Same most s s
   same-refl s = equal refl refl refl refl
 
-  told-same : (s t : Sink) → s .memory ≡ t .memory → s .used ≡ t .used → s .readings ≡ t .readings → Told most s → Told most t
+  told-same :
+      (s t : Sink) → s .memory ≡ t .memory → s .used ≡ t .used → s .readings ≡ t .readings → Told most s
+      → Told most t
   told-same s t m u r h =
       let n = ap (λ (x : List ℕ). length x / 2) m in
       let a = h .room in
@@ -258,11 +260,14 @@ module _ (counts : Counts) where
   measure-steps k = refl
 
 -- a binding too many decides
-answer-nine : (counts : Counts) (room : ℕ) → counts .least < mostRecords → answerBy counts room ≡ refused 9 (counts .least)
+answer-nine :
+    (counts : Counts) (room : ℕ) → counts .least < mostRecords → answerBy counts room ≡ refused 9 (counts .least)
 unfolding answerBy
 answer-nine counts room h = rw (lt-ltb (counts .least) mostRecords h, answerBy)
 
-left-nine : (counts : Counts) (memory : List ℕ) → counts .least < mostRecords → leftBy counts memory ≡ replicate (length memory) 0
+left-nine :
+    (counts : Counts) (memory : List ℕ) → counts .least < mostRecords
+    → leftBy counts memory ≡ replicate (length memory) 0
 unfolding leftBy
 left-nine counts memory h = rw (lt-ltb (counts .least) mostRecords h, leftBy)
 
@@ -272,7 +277,8 @@ measure-nine counts h = rw (lt-ltb (counts .least) mostRecords h, measureBy)
 
 -- else there is no room
 answer-eleven :
-    (counts : Counts) (room : ℕ) → mostRecords ≤ counts .least → room < counts .used → answerBy counts room ≡ refused 11 0
+    (counts : Counts) (room : ℕ) → mostRecords ≤ counts .least → room < counts .used
+    → answerBy counts room ≡ refused 11 0
 unfolding answerBy
 answer-eleven counts room h g = rw (le-ltb (counts .least) mostRecords h, lt-ltb room (counts .used) g, answerBy)
 

@@ -69,7 +69,9 @@ loaded slot copy more j v e =
 -- ## What was looked at, in parts
 
 module _ (Q : Pattern → Type 0) (most limit : ℕ) where
-  pub led-none : (list : Pattern → List Found) (before : Sink) → ((p : Pattern) → Q p → list p ≡ []) → Led Q most limit list before before
+  pub led-none :
+      (list : Pattern → List Found) (before : Sink) → ((p : Pattern) → Q p → list p ≡ [])
+      → Led Q most limit list before before
   unfolding emits
   led-none list before e =
       record {
@@ -124,7 +126,8 @@ module _ (Q : Pattern → Type 0) (most limit : ℕ) where
 
   -- after branches that were counted
   pub led-counted :
-      (list : Pattern → List Found) (before middle after : Sink) → Same most middle before → before .steps ≤ middle .steps
+      (list : Pattern → List Found) (before middle after : Sink) → Same most middle before
+      → before .steps ≤ middle .steps
       → (before .steps ≤ limit → middle .steps ≤ limit)
       → Led Q most limit list middle after
       → Led Q most limit list before after
@@ -139,7 +142,8 @@ module _ (Q : Pattern → Type 0) (most limit : ℕ) where
       }
 
   -- a start that is given up
-  pub led-given-up : (list : Pattern → List Found) (before : Sink) → giveUp ≤ before .steps → Led Q most limit list before before
+  pub led-given-up :
+      (list : Pattern → List Found) (before : Sink) → giveUp ≤ before .steps → Led Q most limit list before before
   led-given-up list before h = record { longer = omega arith; bounded = λ k. k; found = λ k p q. absurd (omega arith) }
 
 -- all that fires at record j, in turn, is all that is found from there on

@@ -26,7 +26,8 @@ use Rattle.starts.specs.Sinks.{Sink, sinkOf, stop, emits, Same}
 use Rattle.starts.specs.Sinks.Same.{equal}
 use Rattle.reach.specs.Readings.{firingBy, leavingBy, Cans, Usable, Of}
 use Rattle.reach.proofs.Masks.{first-read}
-use Rattle.starts.specs.Skips.{By, Firing, Branching, Settled, giveUp, Branched, branchOver, OpenTo, WindowIs, AllStarted}
+use Rattle.starts.specs.Skips.{By, Firing, Branching, Settled, giveUp, Branched, branchOver}
+use Rattle.starts.specs.Skips.{OpenTo, WindowIs, AllStarted}
 use Rattle.sweep.specs.Floors.{Floor}
 use Rattle.starts.proofs.Sinks.{emits-append}
 use Rattle.starts.proofs.Same.{same-refl, same-trans, same-emits, cut}
@@ -171,7 +172,8 @@ module _ (plan bytes : List ℕ) (n c duration most i : ℕ) (usable : Usable pl
         -- what is found of the reading of no bindings is what is found from the start
         whole-list :
             (p : Pattern) → By p plan bytes s
-            → skipUntil p (recordsOf bytes) (s .mark) (s .until) i (heldIn slot .bindings) ≡ startFound p (recordsOf bytes) i
+            → skipUntil p (recordsOf bytes) (s .mark) (s .until) i (heldIn slot .bindings)
+            ≡ startFound p (recordsOf bytes) i
         whole-list p o =
             all-taken plan bytes s slot i firing (start-firing size count) fire-all (omega (arith, some)) p o ∙ start-list p o
 
@@ -270,7 +272,8 @@ module _ (plan bytes : List ℕ) (n c duration most : ℕ) (none : Sink) where
         }
 
     pub left-none :
-        recordCount bytes ≤ i → (limit : ℕ) → now .steps < giveUp → AllStarted plan bytes n c duration most limit none now
+        recordCount bytes ≤ i → (limit : ℕ) → now .steps < giveUp
+        → AllStarted plan bytes n c duration most limit none now
     unfolding emits
     left-none l limit steps =
         record {

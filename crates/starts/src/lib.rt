@@ -1,25 +1,20 @@
 // The start-by-start pass, and measure.
 ghost use mathlib.Core.Path.{_≡_};
 ghost use mathlib.Core.Bool.{true, false};
-ghost use mathlib.Core.List.{List};
 ghost use Prim.Native.Nat.{ℕ, _+_, _-_, _*_, _^_, _/_, _<_, _≤_, min, max};
 ghost use lib.Dec.{ltb};
 ghost use lib.ListN.{length, replicate};
 ghost use Rattle.numbers.specs.Bits.{within};
-ghost use Rattle.records.specs.Records.{recordCount, recordsOf};
+ghost use Rattle.records.specs.Records.{recordCount};
 ghost use Rattle.records.specs.Blocks.{InOrder as BlockInOrder, mostRecords};
 ghost use Rattle.patterns.specs.Checked.{InOrder};
 ghost use Rattle.patterns.specs.Patterns.{mostVariables};
 ghost use Rattle.rule.specs.Promises.{mostBindings, mostCounted};
-ghost use Rattle.rule.specs.Starts.{foundAll};
 ghost use Rattle.rule.specs.Starts.Found.{closed};
 ghost use Rattle.rule.specs.Calls.{StartByStartCall, MeasureCall};
 ghost use Rattle.slots.specs.Slots.{slotBytes, countIn, heldIn};
-ghost use Rattle.firing.specs.Plan.{planRoom};
-ghost use Rattle.firing.specs.Firing.{Fit};
-ghost use Rattle.starts.specs.Sinks.{sinkOf, sum as sumTo, emit, emits, noneYet, answerBy, leftBy, measureBy};
+ghost use Rattle.starts.specs.Sinks.{sinkOf, sum as sumTo, emit, noneYet, answerBy, leftBy, measureBy};
 ghost use Rattle.reach.specs.Readings.{Cans, Reads, Usable, Ready};
-ghost use Rattle.reach.specs.Growing.{NeverFull, NoneOver};
 ghost use Rattle.starts.specs.Skips.{Above, Taking, Branching, Mute, Settled, patience};
 ghost use Rattle.sweep.specs.Floors.{Floor};
 ghost use Rattle.starts.specs.Skips.{Closed, Skipped, Branched, OpenTo, WindowIs, AllStarted, Passed};
@@ -187,8 +182,8 @@ fn may_exceed(
     requires { ⌜ (Ready (now plan) (now block) s (now slot) j)
         × (Cans (now plan) (now block) (s .n) (s .c) (now cans))
         × Above (now plan) (now block) s j (heldIn (now slot) .bindings) (s .floor) ⌝ }
-    ensures { λ r. ⌜ (r ≡ false → Above (now (plan .entry)) (now (block .entry)) s j (heldIn (now (slot .entry)) .bindings)
-        (counts .least)) ⌝ }
+    ensures { λ r. ⌜ (r ≡ false → Above (now (plan .entry)) (now (block .entry)) s j
+        (heldIn (now (slot .entry)) .bindings) (counts .least)) ⌝ }
 {
     let end = smaller(s.until, counts.least as usize);
     if end <= s.floor {
@@ -217,7 +212,8 @@ fn is_settled(
     requires { ⌜ (Ready (now plan) (now block) s (now slot) j)
         × (Cans (now plan) (now block) (s .n) (s .c) (now cans))
         × Above (now plan) (now block) s j (heldIn (now slot) .bindings) (s .floor) ⌝ }
-    ensures { λ r. ⌜ (r ≡ true → Settled (now (plan .entry)) (now (block .entry)) s (now (slot .entry)) j counts room) ⌝ }
+    ensures { λ r. ⌜ (r ≡ true
+        → Settled (now (plan .entry)) (now (block .entry)) s (now (slot .entry)) j counts room) ⌝ }
 {
     if may_report(block, plan, cans, s, j, slot, counts, room) {
         return false;
@@ -394,7 +390,8 @@ fn first_steps(counts: Counts, room: usize, most: usize) -> u32
 
 // The counts before a start's first branch.
 fn begun(counts: Counts, steps: u32) -> Counts
-    ensures { λ o. ⌜ o ≡ record { used = counts .used; readings = counts .readings; least = counts .least; steps = steps } ⌝ }
+    ensures { λ o. ⌜ o
+        ≡ record { used = counts .used; readings = counts .readings; least = counts .least; steps = steps } ⌝ }
 {
     Counts {
         used: counts.used,
@@ -486,11 +483,12 @@ fn decided(least: usize) -> Counts
     }
 }
 
-// What the answer depends on of all that is found of a checked pattern in a checked block. Counts from `most` on are not
-// told. Where a start takes many branches, the block is looked at as a whole, and then the starts once more.
+// What the answer depends on of all that is found of a checked pattern in a checked block. Counts from `most` on are
+// not told. Where a start takes many branches, the block is looked at as a whole, and then the starts once more.
 fn pass(p: patterns::Pattern, block: &[u8], most: usize, result: &mut [u8]) -> Counts
     requires { ⌜ (InOrder p) × BlockInOrder (now block) ⌝ }
-    ensures { λ o. ⌜ Passed p (now (block .entry)) most (length (now (result .entry))) (sinkOf (now (result .exit)) o) ⌝ }
+    ensures { λ o. ⌜ Passed p (now (block .entry)) most (length (now (result .entry)))
+        (sinkOf (now (result .exit)) o) ⌝ }
 {
     let plan = firing::plan_of(p);
     let mut cans = reach::no_cans();

@@ -1,5 +1,5 @@
--- `reach::next_can` meets its contract: at no record before the one that it gives can one of the variables fire. Assumes
--- nothing.
+-- `reach::next_can` meets its contract: at no record before the one that it gives can one of the variables fire.
+-- Assumes nothing.
 use native.Mathlib.Omega.{arith}
 use Prim.Native.Nat.{ℕ, _-_, _≤_, _<_}
 use mathlib.Core.Path.{_≡_}

@@ -37,7 +37,8 @@ module _ (plan bytes : List ℕ) (s : Start) (slot : List ℕ) (j : ℕ) (ready 
 
   -- the records that it passes fire nothing
   more-passed :
-      (leave : ℕ) → leave ≡ leavingBy plan (s .n) (heldIn slot .state) → (from r : ℕ) → NextCan cans leave from (s .until) r
+      (leave : ℕ) → leave ≡ leavingBy plan (s .n) (heldIn slot .state) → (from r : ℕ)
+      → NextCan cans leave from (s .until) r
       → ((k : ℕ) → j ≤ k → k < from → firingBy plan bytes (s .n) (s .c) k (heldIn slot) ≡ 0)
       → (k : ℕ) → j ≤ k → k < r → firingBy plan bytes (s .n) (s .c) k (heldIn slot) ≡ 0
   more-passed leave is from r next before k a b =

@@ -11,8 +11,9 @@ use Rattle.slots.specs.Slots.{countIn}
 use Rattle.starts.specs.Sinks.{Sink, sinkOf}
 use Rattle.starts.specs.Skips.{Firing, Branched}
 use Rattle.reach.proofs.MaskInTurn.{rest-less}
-use Rattle.starts.proofs.Skips.{branch-done, firing-taking, branch-takes, rest-firing, rest-within, loaded, grown-ready, grown-closes}
-use Rattle.starts.proofs.Skips.{skip-closes, skip-notes, next-branching, skip-given-up, skip-settled, skip-branches}
+use Rattle.starts.proofs.Skips.{branch-done, firing-taking, branch-takes, rest-firing, rest-within}
+use Rattle.starts.proofs.Skips.{loaded, grown-ready, grown-closes, skip-closes, skip-notes}
+use Rattle.starts.proofs.Skips.{next-branching, skip-given-up, skip-settled, skip-branches}
 use borrow.Fn.Kinds.{In}
 use borrow.Fn.PlainCycle.{Measures, is, falls, and}
 use Rattle.numbers.proofs.lowest_bit.Reads as lowest-bit-reads
@@ -92,13 +93,16 @@ branch-Inv-loop block plan cans slot j firing s result₀ taken₀ rest₀ resul
 abbrev branch-μ-loop : branch-lts.MeasureT-loop
 branch-μ-loop block plan cans slot j firing s result₀ taken₀ rest₀ result taken rest = rest
 
-branch-loop-holds : (t : ℕ) → branch-lts.Need-loop-holds (of-branch t) (branch-at t) branch.Post branch-Inv-loop branch-μ-loop
+branch-loop-holds :
+    (t : ℕ) → branch-lts.Need-loop-holds (of-branch t) (branch-at t) branch.Post branch-Inv-loop branch-μ-loop
 branch-loop-holds t c = (refl, c .before .before .before .pre .1 .0 .fire, λ u h. h, λ after b. b)
 
-branch-lowest-bit-requires : (t : ℕ) → branch-lts.Need-lowest-bit-requires (of-branch t) (branch-at t) branch.Post branch-Inv-loop branch-μ-loop
+branch-lowest-bit-requires :
+    (t : ℕ) → branch-lts.Need-lowest-bit-requires (of-branch t) (branch-at t) branch.Post branch-Inv-loop branch-μ-loop
 branch-lowest-bit-requires t c κs = search needs
 
-branch-skip-requires : (t : ℕ) → branch-lts.Need-skip-requires (of-branch t) (branch-at t) branch.Post branch-Inv-loop branch-μ-loop
+branch-skip-requires :
+    (t : ℕ) → branch-lts.Need-skip-requires (of-branch t) (branch-at t) branch.Post branch-Inv-loop branch-μ-loop
 branch-skip-requires t c κs =
     let st = c .before .before .before .before .before .before .before in
     let a = st .args in
@@ -109,10 +113,12 @@ branch-skip-requires t c κs =
     let same = st .pre .0 in
     (omega arith, (firing-taking (a .plan .now) (a .block .now) (a .s) (a .slot .now) (a .j) (a .firing) (st .pre .1 .0) (low .result) (h .inv .2 (low .result) (low .ensures .here)), st .pre .1 .1))
 
-branch-without-bit-requires : (t : ℕ) → branch-lts.Need-without-bit-requires (of-branch t) (branch-at t) branch.Post branch-Inv-loop branch-μ-loop
+branch-without-bit-requires :
+    (t : ℕ) → branch-lts.Need-without-bit-requires (of-branch t) (branch-at t) branch.Post branch-Inv-loop branch-μ-loop
 branch-without-bit-requires t c κs = c .before .before .before .before .lowest-bit .ensures .small
 
-branch-loop-less : (t : ℕ) → branch-lts.Need-loop-less (of-branch t) (branch-at t) branch.Post branch-Inv-loop branch-μ-loop
+branch-loop-less :
+    (t : ℕ) → branch-lts.Need-loop-less (of-branch t) (branch-at t) branch.Post branch-Inv-loop branch-μ-loop
 branch-loop-less t c =
     let h = c .before .before .before .before .before .before .before .loop in
     let some = c .before .before .before .before .before .before .loop-test .taken in
@@ -121,7 +127,8 @@ branch-loop-less t c =
     let is = c .without-bit .ensures in
     omega arith
 
-branch-loop-again : (t : ℕ) → branch-lts.Need-loop-again (of-branch t) (branch-at t) branch.Post branch-Inv-loop branch-μ-loop
+branch-loop-again :
+    (t : ℕ) → branch-lts.Need-loop-again (of-branch t) (branch-at t) branch.Post branch-Inv-loop branch-μ-loop
 branch-loop-again t c =
     let a = c .before .before .before .before .before .before .before .before .before .before .before .args in
     let h = c .before .before .before .before .before .before .before .loop in
@@ -139,7 +146,8 @@ branch-loop-again t c =
           (rest .ensures) (call .ensures) others),
     )
 
-branch-same-length : (t : ℕ) → branch-lts.Need-same-length (of-branch t) (branch-at t) branch.Post branch-Inv-loop branch-μ-loop
+branch-same-length :
+    (t : ℕ) → branch-lts.Need-same-length (of-branch t) (branch-at t) branch.Post branch-Inv-loop branch-μ-loop
 branch-same-length t c = search needs
 
 branch-returns : (t : ℕ) → branch-lts.Need-returns (of-branch t) (branch-at t) branch.Post branch-Inv-loop branch-μ-loop

@@ -1,4 +1,5 @@
--- `starts::may_exceed` meets its contract: by the block as a whole, by places, or by what can still be bound. Assumes nothing.
+-- `starts::may_exceed` meets its contract: by the block as a whole, by places, or by what can still be bound. Assumes
+-- nothing.
 use mathlib.Core.Bool.{true≢false}
 use Rattle.starts.proofs.Cuts.{not-true, above-none, above-floor}
 use borrow.Author.Needs.{needs}

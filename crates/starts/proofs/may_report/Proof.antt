@@ -1,4 +1,5 @@
--- `starts::may_report` meets its contract: a binding too many is known, the counts are told, or the reading is never full. Assumes nothing.
+-- `starts::may_report` meets its contract: a binding too many is known, the counts are told, or the reading is never
+-- full. Assumes nothing.
 use mathlib.Core.Bool.{true≢false}
 use Rattle.starts.specs.Skips.Mute.{decided, counted, silent}
 use borrow.Author.Needs.{needs}

@@ -21,7 +21,8 @@ use borrow.Author.Needs.{needs}
 use Rattle.starts.proofs.pass.Statement.{statement}
 use Rattle.starts.proofs.pass.Tie as tie
 
-module _ (p : Pattern) (block plan : List ℕ) (good : InOrder p) (rising : BlockInOrder block) (made : IsPlan p plan) where
+module _ (p : Pattern) (block plan : List ℕ) (good : InOrder p) (rising : BlockInOrder block)
+    (made : IsPlan p plan) where
   usable : Usable plan block (p .n) (p .c)
   usable =
       record {
