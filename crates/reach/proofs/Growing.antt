@@ -1,7 +1,7 @@
 -- What the readings that a reading can grow to have in common: where they stand, what they bind, which steps fire for
 -- them; and that all that skip and branch find is among them. Assumes nothing.
 use mathlib.Core.Path.{_≡_, refl, sym, ap, ap₂, subst, _∙_}
-use mathlib.Core.Bool.{Bool, true, false, _&&_}
+use mathlib.Core.Bool.{Bool, true, _&&_}
 use mathlib.Core.List.{List, [], _∷_, List·Memᴰ, List·Memᴰ·head, List·Memᴰ·tail, List·Memᴰ·not-nil}
 use Prim.Native.Nat.{ℕ, zero, suc, _+_, _-_, _≤_, _<_}
 use native.Mathlib.Omega.{arith}
@@ -16,10 +16,10 @@ use Rattle.patterns.specs.Patterns.{mostConditions}
 use Rattle.automaton.specs.Filtering.{all}
 use Rattle.automaton.proofs.All.{implies-of, implies-true}
 use Rattle.automaton.proofs.Membership.{both, all-mem}
-use Rattle.rule.specs.Rule.{Block, Binding, Reading, fires, isFull, lastOf}
+use Rattle.rule.specs.Rule.{Block, Binding, Reading, fires, isFull}
 use Rattle.rule.specs.Promises.{mostBindings}
 use Rattle.rule.specs.Starts.Found.{closed, over}
-use Rattle.rule.specs.Starts.{Found, anyFires, withBinding, close, skipFound, skipUntil}
+use Rattle.rule.specs.Starts.{Found, anyFires, withBinding, close, skipUntil}
 use Rattle.rule.proofs.LiveReadings.{fires-variable}
 use Rattle.rule.proofs.SkipBranch.{any-fires, mem-turn, close-full, close-part, skip-passes, skip-closes, skip-takes}
 use Rattle.rule.proofs.SkipBranch.{skip-over}

@@ -1,9 +1,9 @@
 -- What a pass from one start hands on: readings in slots, what each record's own conditions allow, and the next record
 -- that fires. No promise of a public call names this file.
 use mathlib.Core.Path.{_≡_}
-use mathlib.Core.Bool.{true, _&&_}
+use mathlib.Core.Bool.{_&&_}
 use mathlib.Core.List.{List, List·Memᴰ}
-use Prim.Native.Nat.{ℕ, suc, _+_, _≤_, _<_}
+use Prim.Native.Nat.{ℕ, suc, _≤_, _<_}
 use lib.Bits.{bitAnd}
 use lib.ListN.{length, getD}
 use Rattle.numbers.specs.Bits.{bit, mask}

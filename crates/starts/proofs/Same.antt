@@ -1,6 +1,6 @@
 -- Sinks that give the same answer: whatever is found next leaves them so, the answer is the same, and what cannot
 -- change it may be left out. Assumes nothing.
-use mathlib.Core.Path.{_≡_, refl, sym, ap, subst, _∙_}
+use mathlib.Core.Path.{_≡_, refl, sym, ap, _∙_}
 use mathlib.Core.Bool.{Bool, true, false, true≢false}
 use mathlib.Core.List.{List, [], _∷_, List·Memᴰ, List·Memᴰ·head, List·Memᴰ·tail}
 use Prim.Native.Nat.{ℕ, _+_, _*_, _/_, _≤_, _<_, min}
@@ -9,7 +9,6 @@ use lib.ListN.{length, replicate}
 use borrow.Author.Tests.{lt-ltb, le-ltb}
 use Rattle.numbers.specs.Numbers.{bytesOf}
 use Rattle.numbers.proofs.Cases.{by-order}
-use Rattle.records.specs.declared.Answer.{Answer}
 use Rattle.records.specs.Blocks.{refused, mostRecords}
 use Rattle.rule.specs.Rule.{Reading}
 use Rattle.rule.specs.Promises.{mostCounted}

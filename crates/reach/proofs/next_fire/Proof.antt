@@ -3,7 +3,7 @@ use native.Mathlib.Omega.{arith}
 use mathlib.Core.Path.{_≡_, sym, ap, _∙_}
 use mathlib.Core.List.{List}
 use Prim.Native.Nat.{ℕ, _+_, _-_, _^_, _≤_, _<_}
-use lib.Bits.{bitAnd, and-le-r}
+use lib.Bits.{and-le-r}
 use lib.ListN.{length, getD}
 use Rattle.records.specs.Blocks.{mostRecords}
 use Rattle.patterns.specs.Patterns.{mostVariables}
@@ -13,7 +13,6 @@ use Rattle.reach.specs.declared.Start.{Start}
 use Rattle.reach.specs.Readings.{firingBy, leavingBy, Cans, Ready, NextCan}
 use Rattle.reach.proofs.Readings.{fit}
 use Rattle.reach.proofs.Masks.{read-bound, allowed-read, firing-read, none-read, passed-more}
-use borrow.Author.Needs.{needs}
 use Rattle.reach.proofs.next_fire.Statement.{statement}
 use Rattle.reach.proofs.next_fire.Tie as tie
 

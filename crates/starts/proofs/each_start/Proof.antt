@@ -11,7 +11,7 @@ use Rattle.records.specs.declared.Record.{Record}
 use Rattle.records.specs.Records.{recordCount}
 use Rattle.starts.specs.declared.Counts.{Counts}
 use Rattle.starts.specs.Sinks.{sinkOf, noneYet}
-use Rattle.starts.specs.Skips.{OpenTo, giveUp, AllStarted}
+use Rattle.starts.specs.Skips.{OpenTo, giveUp}
 use Rattle.reach.proofs.Masks.{read-bound, first-read}
 use Rattle.starts.proofs.Windows.{open-none, open-later}
 use Rattle.starts.proofs.Starts.{started-gap, start-branching, started-settled, started-branch, Left, left-all}
