@@ -59,10 +59,11 @@ module _ (k : Condition) where
 
 -- ## One condition
 
--- what the class settles and then, one after the other, the kinds: type, core, slot, amount, and both sides
+-- what the class settles and then, one after the other, the kinds: type, core, slot, amount, wave, and both sides
 abbrev byKinds : Bool → (ℕ → Bool) → Bool → Bool
 byKinds class is own =
-    ((((class && implies (is 1) own) && implies (is 0) own) && implies (is 3) own) && implies (is 4) own)
+    (((((class && implies (is 1) own) && implies (is 0) own) && implies (is 3) own) && implies (is 4) own)
+    && implies (is 5) own)
     && implies (is bothSides) own
 
 -- the kinds of a condition of form 0
@@ -153,22 +154,23 @@ module _ (plan bytes : List ℕ) (i n c : ℕ) where
       mask-same (λ v. bit (mask f n) v && every (kindHolds kind v) c) (λ v. f v && every (kindHolds kind v) c) n (λ v l.
       ap (λ (t : Bool). t && every (kindHolds kind v) c) (mask-inside f n v l))
 
-  -- five kinds of tests together are one
+  -- all kinds of tests together are one
   every-kind :
-      (a t o s m b : ℕ → Bool)
-      → ((((every a c && every t c) && every o c) && every s c) && every m c) && every b c
-      ≡ every (λ q. ((((a q && t q) && o q) && s q) && m q) && b q) c
-  every-kind a t o s m b =
-      ap (λ (x : Bool). (((x && every o c) && every s c) && every m c) && every b c) (sym (every-both a t c))
-      ∙ ap (λ (x : Bool). ((x && every s c) && every m c) && every b c) (sym (every-both (λ q. a q && t q) o c))
-      ∙ ap (λ (x : Bool). (x && every m c) && every b c) (sym (every-both (λ q. (a q && t q) && o q) s c))
-      ∙ ap (λ (x : Bool). x && every b c) (sym (every-both (λ q. ((a q && t q) && o q) && s q) m c))
-      ∙ sym (every-both (λ q. (((a q && t q) && o q) && s q) && m q) b c)
+      (a t o s m w b : ℕ → Bool)
+      → (((((every a c && every t c) && every o c) && every s c) && every m c) && every w c) && every b c
+      ≡ every (λ q. (((((a q && t q) && o q) && s q) && m q) && w q) && b q) c
+  every-kind a t o s m w b =
+      ap (λ (x : Bool). ((((x && every o c) && every s c) && every m c) && every w c) && every b c) (sym (every-both a t c))
+      ∙ ap (λ (x : Bool). (((x && every s c) && every m c) && every w c) && every b c) (sym (every-both (λ q. a q && t q) o c))
+      ∙ ap (λ (x : Bool). ((x && every m c) && every w c) && every b c) (sym (every-both (λ q. (a q && t q) && o q) s c))
+      ∙ ap (λ (x : Bool). (x && every w c) && every b c) (sym (every-both (λ q. ((a q && t q) && o q) && s q) m c))
+      ∙ ap (λ (x : Bool). x && every b c) (sym (every-both (λ q. (((a q && t q) && o q) && s q) && m q) w c))
+      ∙ sym (every-both (λ q. ((((a q && t q) && o q) && s q) && m q) && w q) b c)
 
   -- the class, and then kind by kind
   pub all-settled :
       Sound plan → Classed plan n c → c ≤ mostConditions → (t : ℕ) → t < 256 → t ≡ recordAt bytes i .«event_type»
-      → settled bothSides (settled 4 (settled 3 (settled 0 (settled 1 (classIn plan (t / typesTogether))))))
+      → settled bothSides (settled 5 (settled 4 (settled 3 (settled 0 (settled 1 (classIn plan (t / typesTogether)))))))
       ≡ canBy plan n c bytes i
   unfolding classMask canBy otherHolds ownHolds
   all-settled sound classed few t h e =
@@ -179,22 +181,25 @@ module _ (plan bytes : List ℕ) (i n c : ℕ) where
       let f2 : ℕ → Bool = λ v. f1 v && every (kindHolds 0 v) c in
       let f3 : ℕ → Bool = λ v. f2 v && every (kindHolds 3 v) c in
       let f4 : ℕ → Bool = λ v. f3 v && every (kindHolds 4 v) c in
-      ap (λ (x : ℕ). settled bothSides (settled 4 (settled 3 (settled 0 (settled 1 x))))) (classed .byClass b small)
-      ∙ ap (λ (x : ℕ). settled bothSides (settled 4 (settled 3 (settled 0 x)))) (settled-more f0 1)
-      ∙ ap (λ (x : ℕ). settled bothSides (settled 4 (settled 3 x))) (settled-more f1 0)
-      ∙ ap (λ (x : ℕ). settled bothSides (settled 4 x)) (settled-more f2 3)
-      ∙ ap (λ (x : ℕ). settled bothSides x) (settled-more f3 4)
-      ∙ settled-more f4 bothSides
-      ∙ mask-same (λ v. f4 v && every (kindHolds bothSides v) c) (λ v. every (ownHolds plan bytes i v) c) n (λ v l.
-      every-kind (λ q. classHolds b v (conditionIn plan q)) (kindHolds 1 v) (kindHolds 0 v) (kindHolds 3 v) (kindHolds 4 v) (kindHolds bothSides v)
+      let f5 : ℕ → Bool = λ v. f4 v && every (kindHolds 5 v) c in
+      ap (λ (x : ℕ). settled bothSides (settled 5 (settled 4 (settled 3 (settled 0 (settled 1 x)))))) (classed .byClass b small)
+      ∙ ap (λ (x : ℕ). settled bothSides (settled 5 (settled 4 (settled 3 (settled 0 x))))) (settled-more f0 1)
+      ∙ ap (λ (x : ℕ). settled bothSides (settled 5 (settled 4 (settled 3 x)))) (settled-more f1 0)
+      ∙ ap (λ (x : ℕ). settled bothSides (settled 5 (settled 4 x))) (settled-more f2 3)
+      ∙ ap (λ (x : ℕ). settled bothSides (settled 5 x)) (settled-more f3 4)
+      ∙ ap (λ (x : ℕ). settled bothSides x) (settled-more f4 5)
+      ∙ settled-more f5 bothSides
+      ∙ mask-same (λ v. f5 v && every (kindHolds bothSides v) c) (λ v. every (ownHolds plan bytes i v) c) n (λ v l.
+      every-kind (λ q. classHolds b v (conditionIn plan q)) (kindHolds 1 v) (kindHolds 0 v) (kindHolds 3 v) (kindHolds 4 v) (kindHolds 5 v) (kindHolds bothSides v)
       ∙ every-same (λ q. byKinds (classHolds b v (conditionIn plan q)) (λ kind. isOther kind (conditionIn plan q)) (ownHolds plan bytes i v q)) (ownHolds plan bytes i v) c (λ q m.
       by-kinds (conditionIn plan q) (sound .attribute q (omega arith)) b v (recordAt bytes i) (same-class t h ∙ ap classOf e)))
 
   -- where the types leave no variable, nothing is left at all
-  pub none-settled : (can : ℕ) → can ≡ 0 → settled bothSides (settled 4 (settled 3 (settled 0 can))) ≡ 0
+  pub none-settled : (can : ℕ) → can ≡ 0 → settled bothSides (settled 5 (settled 4 (settled 3 (settled 0 can)))) ≡ 0
   none-settled can e =
-      ap (λ (x : ℕ). settled bothSides (settled 4 (settled 3 (settled 0 x)))) e
-      ∙ ap (λ (x : ℕ). settled bothSides (settled 4 (settled 3 x))) (settled-nothing 0)
-      ∙ ap (λ (x : ℕ). settled bothSides (settled 4 x)) (settled-nothing 3)
-      ∙ ap (settled bothSides) (settled-nothing 4)
+      ap (λ (x : ℕ). settled bothSides (settled 5 (settled 4 (settled 3 (settled 0 x))))) e
+      ∙ ap (λ (x : ℕ). settled bothSides (settled 5 (settled 4 (settled 3 x)))) (settled-nothing 0)
+      ∙ ap (λ (x : ℕ). settled bothSides (settled 5 (settled 4 x))) (settled-nothing 3)
+      ∙ ap (λ (x : ℕ). settled bothSides (settled 5 x)) (settled-nothing 4)
+      ∙ ap (settled bothSides) (settled-nothing 5)
       ∙ settled-nothing bothSides

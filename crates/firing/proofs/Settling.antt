@@ -214,7 +214,9 @@ value-at r a l =
     (λ j. let e : a ≡ 2 = omega arith in rw e)
     (λ j. by-order a 4
     (λ k. let e : a ≡ 3 = omega arith in rw e)
-    (λ k. let e : a ≡ 4 = omega arith in rw e))))
+    (λ k. by-order a 5
+    (λ m. let e : a ≡ 4 = omega arith in rw e)
+    (λ m. let e : a ≡ 5 = omega arith in rw e)))))
 
 -- ## A variable taken out of a mask
 

@@ -139,7 +139,7 @@ sampleOf b =
       time = 0;
       slot = 0;
       amount = 0;
-      last = 0;
+      wave = 0;
     }
 
 -- condition k holds of the sample for v, if it is on class and looks at the event for v

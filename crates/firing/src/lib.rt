@@ -36,11 +36,13 @@ const SLOT: u8 = 3;
 
 const AMOUNT: u8 = 4;
 
-const ATTRIBUTES: usize = AMOUNT as usize + 1;
+const WAVE: u8 = 5;
+
+const ATTRIBUTES: usize = WAVE as usize + 1;
 
 // The kind of the conditions with one variable on both sides; below it each attribute is the kind of those that compare
 // it with the constant.
-const BOTH_SIDES: u8 = AMOUNT + 1;
+const BOTH_SIDES: u8 = WAVE + 1;
 
 // Where a condition's 64 bits tell which orders fail its operator: three of the bits that Rule 2.3 has as 0.
 const FIRST_ORDER: usize = 43;
@@ -242,7 +244,7 @@ fn sample(b: usize) -> Record
         time: 0,
         slot: 0,
         amount: 0,
-        last: 0,
+        wave: 0,
     }
 }
 
@@ -402,7 +404,7 @@ fn settle_attribute(
     left
 }
 
-// The five attributes of record i, raised.
+// The attributes of record i, raised.
 fn values_of(block: &[u8], i: usize) -> [u64; ATTRIBUTES]
     requires { ⌜ recordBytes * i + recordBytes ≤ length (now block) ⌝ }
     ensures { λ r. ⌜ r ≡ valuesOf (recordAt (now (block .entry)) i) ⌝ }
@@ -414,6 +416,7 @@ fn values_of(block: &[u8], i: usize) -> [u64; ATTRIBUTES]
         patterns::raised_value(CLASS, r),
         patterns::raised_value(SLOT, r),
         patterns::raised_value(AMOUNT, r),
+        patterns::raised_value(WAVE, r),
     ]
 }
 
@@ -456,7 +459,8 @@ pub fn can_fire(plan: &[u64; PLAN_ROOM], n: usize, c: usize, block: &[u8], i: us
     let by_core = settle_attribute(plan, n, c, by_type, CORE, block, i);
     let by_slot = settle_attribute(plan, n, c, by_core, SLOT, block, i);
     let by_amount = settle_attribute(plan, n, c, by_slot, AMOUNT, block, i);
-    settle_both(plan, n, c, by_amount, block, i)
+    let by_wave = settle_attribute(plan, n, c, by_amount, WAVE, block, i);
+    settle_both(plan, n, c, by_wave, block, i)
 }
 
 // ## Once a reading

@@ -117,7 +117,9 @@ low-value attribute r =
     (λ g. rw (e, f, g, value) (natural _))
     (λ g. by-test (eqb attribute 3)
     (λ h. rw (e, f, g, h, value) (natural _))
-    (λ h. rw (e, f, g, h, value) (low-signed (r .amount))))))
+    (λ h. by-test (eqb attribute 4)
+    (λ k. rw (e, f, g, h, k, value) (low-signed (r .amount)))
+    (λ k. rw (e, f, g, h, k, value) (natural _))))))
 
 pub compared-constant :
     (k : Condition) (second : Record) → k .form ≡ 0 → comparedWith k second ≡ constantValue (k .attribute) (k .constant)

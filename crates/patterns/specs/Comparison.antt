@@ -23,7 +23,7 @@ value attribute r =
           | true ↦ pos (classOf (r .«event_type»))
           | false ↦ elim (eqb attribute 3) [
             | true ↦ pos (r .slot)
-            | false ↦ signed (r .amount)
+            | false ↦ elim (eqb attribute 4) [ true ↦ signed (r .amount) | false ↦ pos (r .wave) ]
           ]
         ]
       ]

@@ -134,7 +134,7 @@ conditionWord bytes i = number bytes (conditionPlace (variableCount bytes) i) 8
 
 -- Rule 2.3: the greatest attribute
 abbrev pub lastAttribute : ℕ
-lastAttribute = 4
+lastAttribute = 5
 
 -- Rule 2.3: the greatest operator
 abbrev pub lastOperator : ℕ

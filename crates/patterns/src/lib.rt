@@ -27,7 +27,7 @@ const MOST_SETS: u8 = 8;
 
 const MOST_IN_SET: usize = 6;
 
-const LAST_ATTRIBUTE: u8 = 4;
+const LAST_ATTRIBUTE: u8 = 5;
 
 const LAST_OPERATOR: u8 = 4;
 
@@ -438,7 +438,10 @@ pub fn raised_value(attribute: u8, r: Record) -> u64
     if attribute == 3 {
         return r.slot as u64 + RAISE;
     }
-    raised_signed(r.amount)
+    if attribute == 4 {
+        return raised_signed(r.amount);
+    }
+    r.wave as u64 + RAISE
 }
 
 // A condition's constant, raised: it has a sign where the attribute is amount (Rule 3.1).

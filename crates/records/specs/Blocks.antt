@@ -25,11 +25,12 @@ misfit bytes = not (eqb (length bytes % recordBytes) 0) || ltb mostRecords (reco
 -- Rule 1.3: a gap that has something of an event, or that tells of no loss
 unfoldable pub gapBroken : Record → Bool
 gapBroken r =
-    not (eqb (r .core) 0) || (not (eqb (r .«event_type») 0) || (not (eqb (r .amount) 0) || eqb (r .slot) 0))
+    not (eqb (r .core) 0)
+    || (not (eqb (r .«event_type») 0) || (not (eqb (r .amount) 0) || (not (eqb (r .wave) 0) || eqb (r .slot) 0)))
 
 -- Rule 8.6: a record that is neither an event nor a gap in order
 unfoldable pub broken : Record → Bool
-broken r = ltb gapKind (r .kind) || (not (eqb (r .last) 0) || (eqb (r .kind) gapKind && gapBroken r))
+broken r = ltb gapKind (r .kind) || (eqb (r .kind) gapKind && gapBroken r)
 
 -- Rules 1.5, 8.7: record i does not come after the one before it; record 0 has none before it
 unfoldable pub late : List ℕ → ℕ → Bool

@@ -21,7 +21,7 @@ recordAt bytes i =
       time = number bytes (recordBytes * i + 2) 5;
       slot = number bytes (recordBytes * i + 7) 4;
       amount = number bytes (recordBytes * i + 11) 4;
-      last = getD bytes (recordBytes * i + 15) 0;
+      wave = getD bytes (recordBytes * i + 15) 0;
     }
 
 -- Rule 1.3

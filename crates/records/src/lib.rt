@@ -32,7 +32,7 @@ pub struct Record {
     pub time: u64,
     pub slot: u32,
     pub amount: u32,
-    pub last: u8,
+    pub wave: u8,
 }
 
 pub fn refusal(code: u8, place: u32) -> Answer
@@ -72,7 +72,7 @@ pub fn unpack(block: &[u8], i: usize) -> Record
         time: time_at(block, i),
         slot: numbers::number4(block, at + 7),
         amount: numbers::number4(block, at + 11),
-        last: numbers::byte(block, at + 15),
+        wave: numbers::byte(block, at + 15),
     }
 }
 
@@ -97,9 +97,6 @@ fn is_broken(r: Record) -> bool
     if GAP < r.kind {
         return true;
     }
-    if r.last != 0 {
-        return true;
-    }
     if r.kind != GAP {
         return false;
     }
@@ -110,6 +107,9 @@ fn is_broken(r: Record) -> bool
         return true;
     }
     if r.amount != 0 {
+        return true;
+    }
+    if r.wave != 0 {
         return true;
     }
     r.slot == 0

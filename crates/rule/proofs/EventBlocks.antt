@@ -56,7 +56,7 @@ number-same a b s t (suc n) h =
 
 -- an event at time t, all else 0
 unfoldable pub event : ℕ → Record
-event t = record { kind = eventKind; core = 0; «event_type» = 0; time = t; slot = 0; amount = 0; last = 0 }
+event t = record { kind = eventKind; core = 0; «event_type» = 0; time = t; slot = 0; amount = 0; wave = 0 }
 
 abbrev fromBytes : ℕ → ℕ → ℕ → ℕ → ℕ → ℕ
 fromBytes a b c x y = ((((0 * 256 + a) * 256 + b) * 256 + c) * 256 + x) * 256 + y

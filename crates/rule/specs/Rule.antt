@@ -29,7 +29,7 @@ Reading = List Binding
 
 -- Rule 5.8: what stands behind the block's end is no event
 abbrev pub behindEnd : Record
-behindEnd = record { kind = gapKind; core = 0; «event_type» = 0; time = 0; slot = 0; amount = 0; last = 0 }
+behindEnd = record { kind = gapKind; core = 0; «event_type» = 0; time = 0; slot = 0; amount = 0; wave = 0 }
 
 -- Rule 5.1: the record of a number
 abbrev pub recordIn : Block → ℕ → Record

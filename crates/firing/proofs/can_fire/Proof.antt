@@ -71,27 +71,35 @@ settle-attribute-requires-4 c κs =
     let p = st .pre in
     (record { sound = p .0; classed = p .1; variables = p .2; conditions = p .3; inside = rw (c .settle-attribute3 .ensures) (settled-inside (a .plan .now) (a .block .now) (a .i) (a .n) (a .c) _ _); here = p .4 }, omega arith)
 
-settle-both-requires : tie.Need-settle-both-requires
-settle-both-requires c κs =
+settle-attribute-requires-5 : tie.Need-settle-attribute-requires-5
+settle-attribute-requires-5 c κs =
     let st = c .before .before .before .before .before .before .before .before in
     let a = st .args in
     let p = st .pre in
-    record { sound = p .0; classed = p .1; variables = p .2; conditions = p .3; inside = rw (c .settle-attribute4 .ensures) (settled-inside (a .plan .now) (a .block .now) (a .i) (a .n) (a .c) _ _); here = p .4 }
+    (record { sound = p .0; classed = p .1; variables = p .2; conditions = p .3; inside = rw (c .settle-attribute4 .ensures) (settled-inside (a .plan .now) (a .block .now) (a .i) (a .n) (a .c) _ _); here = p .4 }, omega arith)
+
+settle-both-requires : tie.Need-settle-both-requires
+settle-both-requires c κs =
+    let st = c .before .before .before .before .before .before .before .before .before in
+    let a = st .args in
+    let p = st .pre in
+    record { sound = p .0; classed = p .1; variables = p .2; conditions = p .3; inside = rw (c .settle-attribute5 .ensures) (settled-inside (a .plan .now) (a .block .now) (a .i) (a .n) (a .c) _ _); here = p .4 }
 
 returns-2 : tie.Need-returns-2
 unfolding recordAt
 returns-2 c =
-    let st = c .before .before .before .before .before .before .before .before .before in
+    let st = c .before .before .before .before .before .before .before .before .before .before in
     let a = st .args in
-    let t = c .before .before .before .before .before .before .before .byte .result in
+    let t = c .before .before .before .before .before .before .before .before .byte .result in
     let settled : ℕ → ℕ → ℕ = settledBy (a .plan .now) (a .n) (a .c) (a .block .now) (a .i) in
-    let all = all-settled (a .plan .now) (a .block .now) (a .i) (a .n) (a .c) (st .pre .0) (st .pre .1) (st .pre .3) t (omega arith) (c .before .before .before .before .before .before .before .byte .ensures) in
+    let all = all-settled (a .plan .now) (a .block .now) (a .i) (a .n) (a .c) (st .pre .0) (st .pre .1) (st .pre .3) t (omega arith) (c .before .before .before .before .before .before .before .before .byte .ensures) in
     let e : c .settle-both .result ≡ canBy (a .plan .now) (a .n) (a .c) (a .block .now) (a .i) =
     c .settle-both .ensures
-    ∙ ap (λ (x : ℕ). settled bothSides x) (c .before .settle-attribute4 .ensures)
-    ∙ ap (λ (x : ℕ). settled bothSides (settled 4 x)) (c .before .before .settle-attribute3 .ensures)
-    ∙ ap (λ (x : ℕ). settled bothSides (settled 4 (settled 3 x))) (c .before .before .before .settle-attribute2 .ensures)
-    ∙ ap (λ (x : ℕ). settled bothSides (settled 4 (settled 3 (settled 0 x)))) (c .before .before .before .before .before .settle-attribute .ensures)
+    ∙ ap (λ (x : ℕ). settled bothSides x) (c .before .settle-attribute5 .ensures)
+    ∙ ap (λ (x : ℕ). settled bothSides (settled 5 x)) (c .before .before .settle-attribute4 .ensures)
+    ∙ ap (λ (x : ℕ). settled bothSides (settled 5 (settled 4 x))) (c .before .before .before .settle-attribute3 .ensures)
+    ∙ ap (λ (x : ℕ). settled bothSides (settled 5 (settled 4 (settled 3 x)))) (c .before .before .before .before .settle-attribute2 .ensures)
+    ∙ ap (λ (x : ℕ). settled bothSides (settled 5 (settled 4 (settled 3 (settled 0 x))))) (c .before .before .before .before .before .before .settle-attribute .ensures)
     ∙ all in
     (e, rw (c .settle-both .ensures) (settled-inside (a .plan .now) (a .block .now) (a .i) (a .n) (a .c) bothSides _))
 
@@ -111,5 +119,6 @@ can-fire-spec =
     settle-attribute-requires-2
     settle-attribute-requires-3
     settle-attribute-requires-4
+    settle-attribute-requires-5
     settle-both-requires
     returns-2)

@@ -27,18 +27,22 @@ raised-value-requires-4 c κs = search needs
 raised-value-requires-5 : tie.Need-raised-value-requires-5
 raised-value-requires-5 c κs = search needs
 
+raised-value-requires-6 : tie.Need-raised-value-requires-6
+raised-value-requires-6 c κs = search needs
+
 returns : tie.Need-returns
 unfolding valuesOf
 returns c =
-    let a = c .before .before .before .before .before .before .before .args in
-    let read : (attribute : ℕ) → raise (value attribute (c .before .before .before .before .before .unpack .result)) ≡ raise (value attribute (recordAt (a .block .now) (a .i))) =
-    λ attribute. ap (λ (r : Record). raise (value attribute r)) (c .before .before .before .before .before .unpack .ensures) in
+    let a = c .before .before .before .before .before .before .before .before .args in
+    let read : (attribute : ℕ) → raise (value attribute (c .before .before .before .before .before .before .unpack .result)) ≡ raise (value attribute (recordAt (a .block .now) (a .i))) =
+    λ attribute. ap (λ (r : Record). raise (value attribute r)) (c .before .before .before .before .before .before .unpack .ensures) in
     rw (
-      c .before .before .before .before .raised-value .ensures ∙ read 0,
-      c .before .before .before .raised-value2 .ensures ∙ read 1,
-      c .before .before .raised-value3 .ensures ∙ read 2,
-      c .before .raised-value4 .ensures ∙ read 3,
-      c .raised-value5 .ensures ∙ read 4,
+      c .before .before .before .before .before .raised-value .ensures ∙ read 0,
+      c .before .before .before .before .raised-value2 .ensures ∙ read 1,
+      c .before .before .before .raised-value3 .ensures ∙ read 2,
+      c .before .before .raised-value4 .ensures ∙ read 3,
+      c .before .raised-value5 .ensures ∙ read 4,
+      c .raised-value6 .ensures ∙ read 5,
     )
 
 pub values-of-spec : {M : Type 1} → statement M
@@ -51,4 +55,5 @@ values-of-spec =
     raised-value-requires-3
     raised-value-requires-4
     raised-value-requires-5
+    raised-value-requires-6
     returns)

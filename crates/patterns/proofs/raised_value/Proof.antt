@@ -59,8 +59,19 @@ raised-signed-requires c κs = search needs
 returns-5 : tie.Need-returns-5
 unfolding value
 returns-5 c =
-    rw (ne-eqb _ _ (c .before .before .before .before .if1 .left), ne-eqb _ _ (c .before .before .before .if2 .left), ne-eqb _ _ (c .before .before .if3 .left), ne-eqb _ _ (c .before .if4 .left), value)
+    rw (ne-eqb _ _ (c .before .before .before .before .before .if1 .left), ne-eqb _ _ (c .before .before .before .before .if2 .left), ne-eqb _ _ (c .before .before .before .if3 .left), ne-eqb _ _ (c .before .before .if4 .left), eq-eqb _ _ (c .before .if5 .taken), value)
     (c .raised-signed .ensures)
+
+cast-result-5 : tie.Need-cast-result-5
+cast-result-5 c = search needs
+
+add-result-5 : tie.Need-add-result-5
+add-result-5 c = search needs
+
+returns-6 : tie.Need-returns-6
+unfolding value raise
+returns-6 c =
+    rw (ne-eqb _ _ (c .before .before .before .before .before .if1 .left), ne-eqb _ _ (c .before .before .before .before .if2 .left), ne-eqb _ _ (c .before .before .before .if3 .left), ne-eqb _ _ (c .before .before .if4 .left), ne-eqb _ _ (c .before .if5 .left), value)
 
 pub raised-value-spec : {M : Type 1} → statement M
 raised-value-spec =
@@ -80,4 +91,7 @@ raised-value-spec =
     add-result-4
     returns-4
     raised-signed-requires
-    returns-5)
+    returns-5
+    cast-result-5
+    add-result-5
+    returns-6)
