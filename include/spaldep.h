@@ -74,6 +74,31 @@ enum {
   SPALDEP_MARK_GAP = 3     /* by a gap, near or far */
 };
 
+/* What a condition compares: its attribute, and with SPALDEP_FORM_ATTRIBUTE its second attribute. */
+enum {
+  SPALDEP_ATTRIBUTE_CORE = 0,
+  SPALDEP_ATTRIBUTE_TYPE = 1,
+  SPALDEP_ATTRIBUTE_CLASS = 2,
+  SPALDEP_ATTRIBUTE_SLOT = 3,
+  SPALDEP_ATTRIBUTE_AMOUNT = 4, /* the only one that may be negative */
+  SPALDEP_ATTRIBUTE_WAVE = 5
+};
+
+/* How the two sides of a condition must stand to each other, as whole numbers. */
+enum {
+  SPALDEP_OPERATOR_EQUAL = 0,
+  SPALDEP_OPERATOR_LESS = 1,
+  SPALDEP_OPERATOR_LESS_EQUAL = 2,
+  SPALDEP_OPERATOR_GREATER = 3,
+  SPALDEP_OPERATOR_GREATER_EQUAL = 4
+};
+
+/* What stands on the right side of a condition. */
+enum {
+  SPALDEP_FORM_CONSTANT = 0, /* its constant */
+  SPALDEP_FORM_ATTRIBUTE = 1 /* the second attribute of its second variable */
+};
+
 /* Sizes. Slices may be shorter or longer than these; each call says what it then does. */
 #define SPALDEP_RECORD_BYTES 16u                          /* one record of a block */
 #define SPALDEP_BLOCK_RECORDS 4096u                       /* the most records of a block */

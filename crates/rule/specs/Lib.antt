@@ -6,3 +6,4 @@ pub mod Computed
 pub mod Starts
 pub mod Unpack
 pub mod Bench
+pub mod Waves
