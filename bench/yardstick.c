@@ -6,12 +6,12 @@
 
 enum { VARIABLES = 12, CONDITIONS = 32, SETS = 8, SET_VARIABLES = 6, RECORDS = 4096, BINDINGS = 32 };
 enum { LIMIT = 256, WORK_BYTES = 160, RESULT_BYTES = 65536 };
-enum { ATTRIBUTES = 5, AMOUNT = 4 };
+enum { ATTRIBUTES = 6, AMOUNT = 4 };
 enum { MARK_WINDOW = 1, MARK_END = 2, MARK_GAP = 3 };
 
 struct record {
   uint64_t time;
-  int64_t value[ATTRIBUTES]; /* core, type, class, slot, amount */
+  int64_t value[ATTRIBUTES]; /* core, type, class, slot, amount, wave */
 };
 
 /* A condition as the step on a variable sees it: the new event's value on the left. `orders` has bit 0 where less
@@ -143,6 +143,11 @@ static void fill_classes(void) {
   }
 }
 
+/* Whether a gap has something of an event, or tells of no loss. */
+static bool gap_broken(const struct record *r) {
+  return r->value[0] != 0 || r->value[1] != 0 || r->value[3] == 0 || r->value[4] != 0 || r->value[5] != 0;
+}
+
 static uint64_t read_block(const uint8_t *bytes, size_t length) {
   uint64_t before = 0;
   if (length % 16 != 0 || length / 16 > RECORDS) return refusal(5, 0);
@@ -157,10 +162,9 @@ static uint64_t read_block(const uint8_t *bytes, size_t length) {
     r->value[2] = classes[at[1]];
     r->value[3] = read32(at + 7);
     r->value[4] = (int32_t)read32(at + 11);
+    r->value[5] = at[15];
     is_gap[i] = kind == 1;
-    if (kind > 1 || at[15] != 0) return refusal(6, i);
-    if (kind == 1 && (r->value[0] != 0 || r->value[1] != 0 || r->value[4] != 0 || r->value[3] == 0))
-      return refusal(6, i);
+    if (kind > 1 || (kind == 1 && gap_broken(r))) return refusal(6, i);
     if (i > 0 && r->time <= before) return refusal(7, i);
     before = r->time;
   }
