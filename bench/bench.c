@@ -97,7 +97,7 @@ static bool compare_times(const char *name, const char *asked, pass library, pas
 
 /* The lines of one pass. */
 static bool compare_all(const char *name, pass library, pass plain) {
-  static const char *const names[WAYS_TO_ASK] = {"class", "type", "amount", "type and slot", "itself"};
+  static const char *const names[WAYS_TO_ASK] = {"class", "type", "amount", "wave", "type and slot", "itself"};
   static struct workload w;
   bool all = true;
   for (enum asked asked = BY_CLASS; asked < WAYS_TO_ASK; asked++)

@@ -58,6 +58,7 @@ static void own_conditions(struct workload *w, unsigned variable, unsigned class
   if (way == BY_TYPE || way == BY_TYPE_AND_SLOT) with_constant(w, variable, TYPE, EQUAL, class_types[class]);
   if (way == BY_TYPE_AND_SLOT) with_constant(w, variable, SLOT, AT_MOST, BOUND_ON_SLOT);
   if (way == BY_AMOUNT) with_constant(w, variable, AMOUNT, EQUAL, (uint8_t)class);
+  if (way == BY_WAVE) with_constant(w, variable, WAVE, EQUAL, (uint8_t)class);
   if (way == BY_ITSELF) with_variable(w, variable, first[class], EQUAL, variable, second[class]);
 }
 
@@ -88,7 +89,7 @@ void put_gap(struct workload *w, size_t record) {
   uint8_t *at = w->block + 16 * record;
   at[0] = 0x40;
   at[1] = 0;
-  memset(at + 7, 0, 8);
+  memset(at + 7, 0, 9);
   at[10] = 1;
 }
 
@@ -101,10 +102,12 @@ static void tell_class(unsigned core, unsigned class, uint32_t *slot, uint32_t *
   *amount = class == 2 ? class : NO_CLASS;
 }
 
+/* An event. With BY_WAVE its wave is its class. */
 static void put_record(struct workload *w, size_t record, unsigned core, unsigned class, uint32_t slot,
                        uint32_t amount) {
   tell_class(core, class, &slot, &amount);
   put_event(w, record, core, class_types[class], slot, amount);
+  if (way == BY_WAVE) w->block[16 * record + 15] = (uint8_t)class;
 }
 
 /* ---- the workloads ---- */

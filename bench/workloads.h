@@ -18,18 +18,28 @@ struct workload {
    variables firing at each, with long idle stretches between. */
 enum { WORKLOADS = 5, JOINS_WORKLOAD = 3 };
 
-/* What a workload's variables ask of an event alone: its class, its type, its amount, its type and a bound on its slot,
-   or something of each that compares two of the event's own attributes. The same events meet them, but for the bound,
-   which some of those events fail. JOINS_WORKLOAD, whose joins need slots and amounts of their own, has no BY_AMOUNT
-   and no BY_ITSELF. */
-enum asked { BY_CLASS, BY_TYPE, BY_AMOUNT, BY_TYPE_AND_SLOT, BY_ITSELF, WAYS_TO_ASK };
+/* What a workload's variables ask of an event alone: its class, its type, its amount, its wave, its type and a bound on
+   its slot, or something of each that compares two of the event's own attributes. The same events meet them, but for
+   the bound, which some of those events fail. JOINS_WORKLOAD, whose joins need slots and amounts of their own, has no
+   BY_AMOUNT and no BY_ITSELF. Events have waves with BY_WAVE alone; otherwise these are 0. */
+enum asked { BY_CLASS, BY_TYPE, BY_AMOUNT, BY_WAVE, BY_TYPE_AND_SLOT, BY_ITSELF, WAYS_TO_ASK };
 
 void make_workload(unsigned number, enum asked asked, struct workload *out);
 
 /* ---- packing ---- */
 
 /* Attributes and operators of conditions. */
-enum { CORE = 0, TYPE = 1, CLASS = 2, SLOT = 3, AMOUNT = 4, EQUAL = 0, AT_MOST = 2, ABOVE = 3 };
+enum {
+  CORE = SPALDEP_ATTRIBUTE_CORE,
+  TYPE = SPALDEP_ATTRIBUTE_TYPE,
+  CLASS = SPALDEP_ATTRIBUTE_CLASS,
+  SLOT = SPALDEP_ATTRIBUTE_SLOT,
+  AMOUNT = SPALDEP_ATTRIBUTE_AMOUNT,
+  WAVE = SPALDEP_ATTRIBUTE_WAVE,
+  EQUAL = SPALDEP_OPERATOR_EQUAL,
+  AT_MOST = SPALDEP_OPERATOR_LESS_EQUAL,
+  ABOVE = SPALDEP_OPERATOR_GREATER
+};
 
 /* A pattern without conditions, from one byte a variable as patterns have it; then condition after condition, with a
    constant or with the attribute of a second variable. */
@@ -42,7 +52,7 @@ void with_variable(struct workload *w, unsigned variable, unsigned attribute, un
 enum { CLASSES = 6 };
 extern const uint8_t class_types[CLASSES];
 
-/* Records of a block, CYCLES_A_RECORD cycles from one to the next; put_gap makes a gap of an event. */
+/* Records of a block, CYCLES_A_RECORD cycles from one to the next. An event has wave 0; put_gap makes a gap of it. */
 enum { CYCLES_A_RECORD = 10 };
 void put_event(struct workload *w, size_t record, unsigned core, unsigned type, uint32_t slot, uint32_t amount);
 void put_gap(struct workload *w, size_t record);

@@ -53,9 +53,11 @@ enum {
   SPALDEP_REFUSED_PATTERN_LENGTH = 1,  /* no whole header, or not as long as its header says; place 0 */
   SPALDEP_REFUSED_HEADER = 2,          /* edition not 1, n not 1 to 12, c over 32, or zero bits set; place 0 */
   SPALDEP_REFUSED_VARIABLE = 3,        /* a variable's byte breaks its rules; place: the first such variable */
-  SPALDEP_REFUSED_CONDITION = 4,       /* a condition breaks its rules; place: the first such condition */
+  SPALDEP_REFUSED_CONDITION = 4,       /* on either side a variable not under n or an attribute over 5, an operator
+                                          over 4, or zero bits set; place: the first such condition */
   SPALDEP_REFUSED_BLOCK_LENGTH = 5,    /* block not whole records, or over 4,096 of them; place 0 */
-  SPALDEP_REFUSED_RECORD = 6,          /* neither event nor gap, zero bits set, or a broken gap; place: the record */
+  SPALDEP_REFUSED_RECORD = 6,          /* neither event nor gap, or a gap with a core, type, amount or wave, or that
+                                          tells of no loss; place: the record */
   SPALDEP_REFUSED_TIME = 7,            /* a time no later than that of the record before; place: the record */
   SPALDEP_REFUSED_LIMIT_OR_MEMORY = 8, /* limit not 1 to 256, work under 160 bytes a reading of it, or a result
                                           slice that is odd or longer than 65,536 bytes; place 0 */
@@ -74,17 +76,18 @@ enum {
   SPALDEP_MARK_GAP = 3     /* by a gap, near or far */
 };
 
-/* What a condition compares: its attribute, and with SPALDEP_FORM_ATTRIBUTE its second attribute. */
+/* What a condition compares: its attribute, and with SPALDEP_FORM_ATTRIBUTE its second attribute. Each is a field of
+   an event's record but for the class, which the type gives: see spaldep_check_block. */
 enum {
   SPALDEP_ATTRIBUTE_CORE = 0,
   SPALDEP_ATTRIBUTE_TYPE = 1,
   SPALDEP_ATTRIBUTE_CLASS = 2,
   SPALDEP_ATTRIBUTE_SLOT = 3,
   SPALDEP_ATTRIBUTE_AMOUNT = 4, /* the only one that may be negative */
-  SPALDEP_ATTRIBUTE_WAVE = 5
+  SPALDEP_ATTRIBUTE_WAVE = 5    /* the wave slot, 0 to 255 */
 };
 
-/* How the two sides of a condition must stand to each other, as whole numbers. */
+/* How the left side of a condition must stand to the right one, as whole numbers. */
 enum {
   SPALDEP_OPERATOR_EQUAL = 0,
   SPALDEP_OPERATOR_LESS = 1,
@@ -129,13 +132,24 @@ enum {
  *                  3       zero
  *
  *   Conditions     4       variable
- *   8c bytes       3       attribute: core 0, type 1, class 2, slot 3, amount 4
- *                  3       operator: = 0, < 1, <= 2, > 3, >= 4
- *                  1       form: the right side is the constant (0) or the second variable's attribute (1)
+ *   8c bytes       3       attribute: core 0, type 1, class 2, slot 3, amount 4, wave 5; SPALDEP_ATTRIBUTE_..
+ *                  3       operator: = 0, < 1, <= 2, > 3, >= 4; SPALDEP_OPERATOR_..
+ *                  1       form: the right side is the constant (0) or the second variable's attribute (1);
+ *                          SPALDEP_FORM_..
  *                  4       second variable; zero in form 0
- *                  3       second attribute; zero in form 0
+ *                  3       second attribute, as the attribute; zero in form 0
  *                 14       zero
  *                 32       constant: two's complement where the attribute is amount, else unsigned; zero in form 1
+ *
+ * These lines write the condition 1.wave >= 16, say, from pattern[at] on. For 1.wave = 0.wave the operator is
+ * SPALDEP_OPERATOR_EQUAL, the form SPALDEP_FORM_ATTRIBUTE, the second attribute SPALDEP_ATTRIBUTE_WAVE and the constant
+ * 0. A constant below 0 is cast to uint32_t first.
+ *
+ *   uint64_t variable = 1, attribute = SPALDEP_ATTRIBUTE_WAVE, compared = SPALDEP_OPERATOR_GREATER_EQUAL;
+ *   uint64_t form = SPALDEP_FORM_CONSTANT, second_variable = 0, second_attribute = 0, constant = 16;
+ *   uint64_t bits = variable << 60 | attribute << 57 | compared << 54 | form << 53 | second_variable << 49 |
+ *                   second_attribute << 46 | constant;
+ *   for (size_t i = 0; i < 8; i++) pattern[at + i] = (uint8_t)(bits >> (56 - 8 * i));
  *
  * Answers  0 where the pattern is in order; else a refusal 1 to 4. No counts: used, readings, peak are 0.
  */
@@ -152,7 +166,7 @@ uint64_t spaldep_check_pattern(const uint8_t *pattern, size_t pattern_len);
  *                 40       time in cycles, later than that of the record before
  *                 32       slot, unsigned; in a gap how many entries were lost, 1 or more
  *                 32       amount, two's complement; zero in a gap
- *                  8       zero
+ *                  8       wave, the wave slot, unsigned; zero in a gap
  *
  * Answers  used: the count of records; or a refusal 5 to 7. readings and peak are 0.
  */
