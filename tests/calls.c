@@ -12,6 +12,7 @@
 #include "reference.h"
 #include "spaldep.h"
 #include "tally.h"
+#include "waves.h"
 
 enum {
   RESULT_ROOM = SPALDEP_RESULT_BYTES_MAX + 64,
@@ -74,6 +75,12 @@ static uint8_t reference_result[RESULT_ROOM], reference_work[WORK_ROOM], referen
 
 /* The byte that lent memory holds before a call. */
 static uint8_t filled(void) { return (uint8_t)(now_seed >> 8 | 1); }
+
+/* What both passes of the library answered last, and the bytes that they left. */
+static struct passed {
+  uint64_t forward, starts;
+  uint8_t forward_result[RESULT_ROOM], starts_result[RESULT_ROOM], work[WORK_ROOM];
+} passed;
 
 static void lend_input(int call) {
   now_call = call_names[call];
@@ -210,18 +217,53 @@ void compare_merged(size_t result_len) {
 
 /* Demand 3: what one pass's acceptance says of the other. */
 void compare_passes(uint32_t limit, size_t work_len, size_t result_len) {
-  static uint8_t forward_result[RESULT_ROOM];
-  uint64_t forward = compare_forward(limit, work_len, result_len);
-  memcpy(forward_result, lent_result.bytes, result_len);
-  uint64_t starts = compare_starts(result_len);
+  passed.forward = compare_forward(limit, work_len, result_len);
+  memcpy(passed.forward_result, lent_result.bytes, result_len);
+  memcpy(passed.work, lent_work.bytes, work_len);
+  passed.starts = compare_starts(result_len);
+  memcpy(passed.starts_result, lent_result.bytes, result_len);
+  uint64_t forward = passed.forward, starts = passed.starts;
   bool in_order = limit >= 1 && limit <= SPALDEP_LIMIT_MAX && work_len >= SPALDEP_WORK_BYTES(limit);
-  bool same = (forward & ~(uint64_t)0xffff) == starts && memcmp(forward_result, lent_result.bytes, result_len) == 0;
+  bool same =
+      (forward & ~(uint64_t)0xffff) == starts && memcmp(passed.forward_result, passed.starts_result, result_len) == 0;
   now_call = "the two passes";
   if (spaldep_code(forward) == 0 && !(spaldep_code(starts) == 0 && same))
     fail("differ: forward accepts, start-by-start does not, or with another result");
   if (spaldep_code(starts) == 0 && in_order && !(same || spaldep_code(forward) == SPALDEP_REFUSED_LIVE))
     fail("differ: start-by-start accepts, forward gives neither the same nor 10");
   tally.met[MET_LIVE_ALONE] += spaldep_code(starts) == 0 && spaldep_code(forward) == SPALDEP_REFUSED_LIVE;
+  tally.met[MET_WAVE_REPORT] += spaldep_readings(starts) > 0 && asks_wave(&now) && has_wave(&now);
+}
+
+/* The input as before, with waves of 0 in the block. */
+static void lend_without_waves(int call) {
+  lend_input(call);
+  clear_waves(lent_block.bytes, lent_block.length);
+}
+
+static void count_without_waves(uint64_t answer) {
+  tally.met[MET_WITHOUT_WAVES]++;
+  tally.met[MET_WITHOUT_WAVES_REPORT] += spaldep_readings(answer) > 0;
+}
+
+void compare_without_waves(uint32_t limit, size_t work_len, size_t result_len) {
+  if (!asks_no_wave(&now) || !has_wave(&now)) return;
+  lend_without_waves(CALL_FORWARD);
+  lent_out(&lent_work, NULL, filled(), work_len);
+  lent_out(&lent_result, NULL, filled(), result_len);
+  uint64_t forward = spaldep_forward(lent_pattern.bytes, now.pattern_len, lent_block.bytes, now.block_len, limit,
+                                     lent_work.bytes, work_len, lent_result.bytes, result_len);
+  if (forward != passed.forward) fail("answers otherwise with waves of 0");
+  same_bytes("leaves another result with waves of 0", &lent_result, passed.forward_result);
+  same_bytes("leaves other working memory with waves of 0", &lent_work, passed.work);
+  count_without_waves(forward);
+  lend_without_waves(CALL_STARTS);
+  lent_out(&lent_result, NULL, filled(), result_len);
+  uint64_t starts = spaldep_start_by_start(lent_pattern.bytes, now.pattern_len, lent_block.bytes, now.block_len,
+                                           lent_result.bytes, result_len);
+  if (starts != passed.starts) fail("answers otherwise with waves of 0");
+  same_bytes("leaves another result with waves of 0", &lent_result, passed.starts_result);
+  count_without_waves(starts);
 }
 
 void calls_ready(void) {
