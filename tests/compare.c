@@ -145,6 +145,7 @@ static void count_wide(void) {
   tally.met[MET_WIDE_ROOM] += !m->too_long && !report;
   tally.met[MET_WIDE_NEVER_FULL] += report && m->never_full > WIDE_BRANCHES;
   tally.met[MET_WIDE_JOINS] += m->joins;
+  tally.met[MET_WIDE_WAVE] += asks_wave(&now);
 }
 
 /* The numbers that a pass would write and the most readings live, found with every slice as long as it may be: the

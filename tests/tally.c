@@ -56,9 +56,10 @@ static const char *const met_names[METS] = {
     "wide cases with a report, and many branches that lead to none",
     "wide cases with many records behind full readings that nothing can follow",
     "wide cases with joins",
+    "wide cases with a condition on wave",
 };
 
-static bool is_wide(int met) { return met >= MET_WIDE_TOO_LONG && met <= MET_WIDE_JOINS; }
+static bool is_wide(int met) { return met >= MET_WIDE_TOO_LONG && met <= MET_WIDE_WAVE; }
 
 void print_answers(bool with_measure) {
   printf("answers by their code, 0 accepted; a dash where the call has no such refusal\n%-15s", "");
