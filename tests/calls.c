@@ -35,9 +35,9 @@ void fail(const char *what) {
     printf("FAILED: %s %s; %s 0x%016" PRIx64 " (%s)\n", now_call, what, case_command, now_seed, now.shape);
 }
 
-static void fail_answers(uint64_t library, uint64_t reference) {
+static void fail_answers(uint64_t answer, const char *where, uint64_t other) {
   char text[160];
-  snprintf(text, sizeof text, "answers 0x%016" PRIx64 " where the reference answers 0x%016" PRIx64, library, reference);
+  snprintf(text, sizeof text, "answers 0x%016" PRIx64 " %s 0x%016" PRIx64, answer, where, other);
   fail(text);
 }
 
@@ -97,7 +97,7 @@ static void same_bytes(const char *what, const struct lent *library, const uint8
 static void same_answer(int call, uint64_t library, uint64_t reference) {
   tally.calls[call]++;
   tally.codes[call][library >> 56]++;
-  if (library != reference) fail_answers(library, reference);
+  if (library != reference) fail_answers(library, "where the reference answers", reference);
   same_bytes("changes the pattern", &lent_pattern, now.pattern);
   same_bytes("changes the block", &lent_block, now.block);
 }
@@ -196,7 +196,7 @@ void compare_by_rule(uint32_t limit, size_t work_len, size_t result_len) {
                                     work_len, reference_result, result_len);
   uint64_t rule = reference_by_rule(now.pattern, now.pattern_len, now.block, now.block_len, limit, work, work_len,
                                     result, result_len);
-  if (pass != rule) fail_answers(pass, rule);
+  if (pass != rule) fail_answers(pass, "where the rule gives", rule);
   if (memcmp(result, reference_result, result_len) != 0) fail("reports what the rule does not");
   tally.met[MET_BY_RULE]++;
 }
@@ -210,7 +210,7 @@ void compare_merged(size_t result_len) {
   uint64_t pass =
       reference_start_by_start(now.pattern, now.pattern_len, now.block, now.block_len, reference_result, result_len);
   uint64_t merged = merged_start_by_start(&now.merged, result, result_len);
-  if (pass != merged) fail_answers(pass, merged);
+  if (pass != merged) fail_answers(pass, "where the merged readings give", merged);
   if (memcmp(result, reference_result, result_len) != 0) fail("reports what the merged readings do not");
   tally.met[MET_MERGED]++;
 }
@@ -247,13 +247,14 @@ static void count_without_waves(uint64_t answer) {
 }
 
 void compare_without_waves(uint32_t limit, size_t work_len, size_t result_len) {
+  static const char without_waves[] = "with waves of 0, and before";
   if (!asks_no_wave(&now) || !has_wave(&now)) return;
   lend_without_waves(CALL_FORWARD);
   lent_out(&lent_work, NULL, filled(), work_len);
   lent_out(&lent_result, NULL, filled(), result_len);
   uint64_t forward = spaldep_forward(lent_pattern.bytes, now.pattern_len, lent_block.bytes, now.block_len, limit,
                                      lent_work.bytes, work_len, lent_result.bytes, result_len);
-  if (forward != passed.forward) fail("answers otherwise with waves of 0");
+  if (forward != passed.forward) fail_answers(forward, without_waves, passed.forward);
   same_bytes("leaves another result with waves of 0", &lent_result, passed.forward_result);
   same_bytes("leaves other working memory with waves of 0", &lent_work, passed.work);
   count_without_waves(forward);
@@ -261,7 +262,7 @@ void compare_without_waves(uint32_t limit, size_t work_len, size_t result_len) {
   lent_out(&lent_result, NULL, filled(), result_len);
   uint64_t starts = spaldep_start_by_start(lent_pattern.bytes, now.pattern_len, lent_block.bytes, now.block_len,
                                            lent_result.bytes, result_len);
-  if (starts != passed.starts) fail("answers otherwise with waves of 0");
+  if (starts != passed.starts) fail_answers(starts, without_waves, passed.starts);
   same_bytes("leaves another result with waves of 0", &lent_result, passed.starts_result);
   count_without_waves(starts);
 }

@@ -14,7 +14,7 @@ struct knobs {
   unsigned core_joins_percent; /* variables with the condition that core is that of variable 0 */
   unsigned wave_joins_percent; /* variables with the condition that wave is that of variable 0 */
   unsigned conditions;         /* further conditions of any sort, */
-  unsigned wave_percent;       /* those that ask wave whatever the others ask, */
+  unsigned wave_percent;       /* those of them that ask wave in any case, */
   unsigned met_percent;        /* and the share of tried events that each must hold of */
   unsigned edge_percent;       /* slots, amounts, waves and constants at the edges of their ranges */
   unsigned records, gap_percent;

@@ -70,8 +70,8 @@ static void plain_wide(struct random *r, struct knobs *k, struct sizes *size) {
   k->window = size->records;
 }
 
-/* The readings of each start bind the events of its core or wave: the 33rd binding met first need not have the least
- * record. */
+/* The readings of each start bind the events of its core, or of its wave: the 33rd binding met first need not have the
+   least record. */
 static void rates_wide(struct random *r, struct knobs *k, struct sizes *size) {
   size->records = size->gap = between(r, 66, 80);
   k->variables = between(r, 3, 5);
