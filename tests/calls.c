@@ -12,6 +12,7 @@
 #include "reference.h"
 #include "spaldep.h"
 #include "tally.h"
+#include "waves.h"
 
 enum {
   RESULT_ROOM = SPALDEP_RESULT_BYTES_MAX + 64,
@@ -34,9 +35,9 @@ void fail(const char *what) {
     printf("FAILED: %s %s; %s 0x%016" PRIx64 " (%s)\n", now_call, what, case_command, now_seed, now.shape);
 }
 
-static void fail_answers(uint64_t library, uint64_t reference) {
+static void fail_answers(uint64_t answer, const char *where, uint64_t other) {
   char text[160];
-  snprintf(text, sizeof text, "answers 0x%016" PRIx64 " where the reference answers 0x%016" PRIx64, library, reference);
+  snprintf(text, sizeof text, "answers 0x%016" PRIx64 " %s 0x%016" PRIx64, answer, where, other);
   fail(text);
 }
 
@@ -75,6 +76,12 @@ static uint8_t reference_result[RESULT_ROOM], reference_work[WORK_ROOM], referen
 /* The byte that lent memory holds before a call. */
 static uint8_t filled(void) { return (uint8_t)(now_seed >> 8 | 1); }
 
+/* What both passes of the library answered last, and the bytes that they left. */
+static struct passed {
+  uint64_t forward, starts;
+  uint8_t forward_result[RESULT_ROOM], starts_result[RESULT_ROOM], work[WORK_ROOM];
+} passed;
+
 static void lend_input(int call) {
   now_call = call_names[call];
   lent_out(&lent_pattern, now.pattern, 0, now.pattern_len);
@@ -90,7 +97,7 @@ static void same_bytes(const char *what, const struct lent *library, const uint8
 static void same_answer(int call, uint64_t library, uint64_t reference) {
   tally.calls[call]++;
   tally.codes[call][library >> 56]++;
-  if (library != reference) fail_answers(library, reference);
+  if (library != reference) fail_answers(library, "where the reference answers", reference);
   same_bytes("changes the pattern", &lent_pattern, now.pattern);
   same_bytes("changes the block", &lent_block, now.block);
 }
@@ -189,7 +196,7 @@ void compare_by_rule(uint32_t limit, size_t work_len, size_t result_len) {
                                     work_len, reference_result, result_len);
   uint64_t rule = reference_by_rule(now.pattern, now.pattern_len, now.block, now.block_len, limit, work, work_len,
                                     result, result_len);
-  if (pass != rule) fail_answers(pass, rule);
+  if (pass != rule) fail_answers(pass, "where the rule gives", rule);
   if (memcmp(result, reference_result, result_len) != 0) fail("reports what the rule does not");
   tally.met[MET_BY_RULE]++;
 }
@@ -203,25 +210,61 @@ void compare_merged(size_t result_len) {
   uint64_t pass =
       reference_start_by_start(now.pattern, now.pattern_len, now.block, now.block_len, reference_result, result_len);
   uint64_t merged = merged_start_by_start(&now.merged, result, result_len);
-  if (pass != merged) fail_answers(pass, merged);
+  if (pass != merged) fail_answers(pass, "where the merged readings give", merged);
   if (memcmp(result, reference_result, result_len) != 0) fail("reports what the merged readings do not");
   tally.met[MET_MERGED]++;
 }
 
 /* Demand 3: what one pass's acceptance says of the other. */
 void compare_passes(uint32_t limit, size_t work_len, size_t result_len) {
-  static uint8_t forward_result[RESULT_ROOM];
-  uint64_t forward = compare_forward(limit, work_len, result_len);
-  memcpy(forward_result, lent_result.bytes, result_len);
-  uint64_t starts = compare_starts(result_len);
+  passed.forward = compare_forward(limit, work_len, result_len);
+  memcpy(passed.forward_result, lent_result.bytes, result_len);
+  memcpy(passed.work, lent_work.bytes, work_len);
+  passed.starts = compare_starts(result_len);
+  memcpy(passed.starts_result, lent_result.bytes, result_len);
+  uint64_t forward = passed.forward, starts = passed.starts;
   bool in_order = limit >= 1 && limit <= SPALDEP_LIMIT_MAX && work_len >= SPALDEP_WORK_BYTES(limit);
-  bool same = (forward & ~(uint64_t)0xffff) == starts && memcmp(forward_result, lent_result.bytes, result_len) == 0;
+  bool same =
+      (forward & ~(uint64_t)0xffff) == starts && memcmp(passed.forward_result, passed.starts_result, result_len) == 0;
   now_call = "the two passes";
   if (spaldep_code(forward) == 0 && !(spaldep_code(starts) == 0 && same))
     fail("differ: forward accepts, start-by-start does not, or with another result");
   if (spaldep_code(starts) == 0 && in_order && !(same || spaldep_code(forward) == SPALDEP_REFUSED_LIVE))
     fail("differ: start-by-start accepts, forward gives neither the same nor 10");
   tally.met[MET_LIVE_ALONE] += spaldep_code(starts) == 0 && spaldep_code(forward) == SPALDEP_REFUSED_LIVE;
+  tally.met[MET_WAVE_REPORT] += spaldep_readings(starts) > 0 && asks_wave(&now) && has_wave(&now);
+}
+
+/* The input as before, with waves of 0 in the block. */
+static void lend_without_waves(int call) {
+  lend_input(call);
+  clear_waves(lent_block.bytes, lent_block.length);
+}
+
+static void count_without_waves(uint64_t answer) {
+  tally.met[MET_WITHOUT_WAVES]++;
+  tally.met[MET_WITHOUT_WAVES_REPORT] += spaldep_readings(answer) > 0;
+}
+
+void compare_without_waves(uint32_t limit, size_t work_len, size_t result_len) {
+  static const char without_waves[] = "with waves of 0, and before";
+  if (!asks_no_wave(&now) || !has_wave(&now)) return;
+  lend_without_waves(CALL_FORWARD);
+  lent_out(&lent_work, NULL, filled(), work_len);
+  lent_out(&lent_result, NULL, filled(), result_len);
+  uint64_t forward = spaldep_forward(lent_pattern.bytes, now.pattern_len, lent_block.bytes, now.block_len, limit,
+                                     lent_work.bytes, work_len, lent_result.bytes, result_len);
+  if (forward != passed.forward) fail_answers(forward, without_waves, passed.forward);
+  same_bytes("leaves another result with waves of 0", &lent_result, passed.forward_result);
+  same_bytes("leaves other working memory with waves of 0", &lent_work, passed.work);
+  count_without_waves(forward);
+  lend_without_waves(CALL_STARTS);
+  lent_out(&lent_result, NULL, filled(), result_len);
+  uint64_t starts = spaldep_start_by_start(lent_pattern.bytes, now.pattern_len, lent_block.bytes, now.block_len,
+                                           lent_result.bytes, result_len);
+  if (starts != passed.starts) fail_answers(starts, without_waves, passed.starts);
+  same_bytes("leaves another result with waves of 0", &lent_result, passed.starts_result);
+  count_without_waves(starts);
 }
 
 void calls_ready(void) {

@@ -37,6 +37,10 @@ uint64_t compare_measure(void);
 /* Both passes, and demand 3 between them. The reference's start-by-start pass of a wide case is the merged one. */
 void compare_passes(uint32_t limit, size_t work_len, size_t result_len);
 
+/* Both passes of the library once more on the block with waves of 0, right after compare_passes with the same
+   arguments: where the pattern asks no wave, they answer as before and leave the same bytes. */
+void compare_without_waves(uint32_t limit, size_t work_len, size_t result_len);
+
 /* The reference's forward pass against every list of bindings, where there are few enough. */
 void compare_by_rule(uint32_t limit, size_t work_len, size_t result_len);
 

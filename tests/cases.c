@@ -5,6 +5,7 @@
 
 #include "reference.h"
 #include "shapes.h"
+#include "spaldep.h"
 
 /* ---- chance ---- */
 
@@ -44,6 +45,11 @@ static uint32_t number32(struct random *r, unsigned edge_percent) {
   return chance(r, 90) ? below(r, 4) : (uint32_t)random_next(r);
 }
 
+static unsigned any_wave(struct random *r, unsigned waves, unsigned edge_percent) {
+  if (waves <= 1) return 0;
+  return chance(r, edge_percent) ? PICK(r, 0, 1, 127, 128, 254, 255) : below(r, waves);
+}
+
 static unsigned type_of_class(struct random *r, unsigned class) {
   const unsigned *range = class_types[class];
   return chance(r, 40) ? range[below(r, 2)] : between(r, range[0], range[1]);
@@ -70,6 +76,7 @@ static void put_event(struct random *r, const struct knobs *k, const unsigned *c
   set_field(at, 8, 8, type_of_class(r, class));
   set_field(at, 56, 32, number32(r, k->edge_percent));
   set_field(at, 88, 32, number32(r, k->edge_percent));
+  set_field(at, 120, 8, any_wave(r, k->waves, k->edge_percent));
 }
 
 /* The first time: small, so that the last is the largest there is, or so that a power of two lies inside the block. */
@@ -119,11 +126,18 @@ static uint64_t duration(struct random *r, const struct knobs *k, const struct t
   return chance(r, 50) ? distance : distance - 1;
 }
 
+/* A constant beside wave, one in five above every wave or near the edges of 32 bits. */
+static unsigned wave_constant(struct random *r, const struct knobs *k) {
+  if (chance(r, 20)) return PICK(r, 255, 256, 0x7fffffff, 0x80000000, 0xffffff00, 0xffffffff);
+  return any_wave(r, k->waves < 2 ? 2 : k->waves, k->edge_percent);
+}
+
 static unsigned constant_of(struct random *r, const struct knobs *k, unsigned attribute) {
   switch (attribute) {
-    case 0: return below(r, k->cores < 4 ? 3 : 64);
-    case 1: return chance(r, 50) ? class_types[below(r, 6)][below(r, 2)] : below(r, 256);
-    case 2: return below(r, 7);
+    case SPALDEP_ATTRIBUTE_CORE: return below(r, k->cores < 4 ? 3 : 64);
+    case SPALDEP_ATTRIBUTE_TYPE: return chance(r, 50) ? class_types[below(r, 6)][below(r, 2)] : below(r, 256);
+    case SPALDEP_ATTRIBUTE_CLASS: return below(r, 7);
+    case SPALDEP_ATTRIBUTE_WAVE: return wave_constant(r, k);
     default: return number32(r, k->edge_percent);
   }
 }
@@ -151,11 +165,12 @@ static int64_t value_of(const struct test_case *c, size_t record, unsigned attri
   }
   while (at[1] > class_types[event_class][1]) event_class++;
   switch (attribute) {
-    case 0: return at[0] & 63;
-    case 1: return at[1];
-    case 2: return event_class;
-    case 3: return slot;
-    default: return (int32_t)amount;
+    case SPALDEP_ATTRIBUTE_CORE: return at[0] & 63;
+    case SPALDEP_ATTRIBUTE_TYPE: return at[1];
+    case SPALDEP_ATTRIBUTE_CLASS: return event_class;
+    case SPALDEP_ATTRIBUTE_SLOT: return slot;
+    case SPALDEP_ATTRIBUTE_AMOUNT: return (int32_t)amount;
+    default: return at[15];
   }
 }
 
@@ -163,7 +178,7 @@ static int64_t value_of(const struct test_case *c, size_t record, unsigned attri
 static size_t some_event(struct random *r, const struct test_case *c, unsigned class) {
   size_t records = c->block_len / 16, from = below(r, (unsigned)records);
   for (size_t i = 0; i < records && i < 20; i++)
-    if (value_of(c, (from + i) % records, 2) == class) return (from + i) % records;
+    if (value_of(c, (from + i) % records, SPALDEP_ATTRIBUTE_CLASS) == class) return (from + i) % records;
   return from;
 }
 
@@ -175,29 +190,43 @@ static bool holds_often(struct random *r, const struct knobs *k, const struct te
   if (k->met_percent == 0 || c->block_len == 0) return true;
   for (unsigned i = 0; i < 20; i++) {
     int64_t left = value_of(c, some_event(r, c, classes[at[0] >> 4]), attribute);
-    int64_t right = attribute == 4 ? (int64_t)(int32_t)bits : (int64_t)bits;
-    if (at[1] >> 5 & 1) right = value_of(c, some_event(r, c, classes[at[1] >> 1 & 15]), second_attribute);
+    int64_t right = attribute == SPALDEP_ATTRIBUTE_AMOUNT ? (int64_t)(int32_t)bits : (int64_t)bits;
+    if ((at[1] >> 5 & 1) == SPALDEP_FORM_ATTRIBUTE)
+      right = value_of(c, some_event(r, c, classes[at[1] >> 1 & 15]), second_attribute);
     switch ((at[0] & 1) << 2 | at[1] >> 6) {
-      case 0: met += left == right; break;
-      case 1: met += left < right; break;
-      case 2: met += left <= right; break;
-      case 3: met += left > right; break;
+      case SPALDEP_OPERATOR_EQUAL: met += left == right; break;
+      case SPALDEP_OPERATOR_LESS: met += left < right; break;
+      case SPALDEP_OPERATOR_LESS_EQUAL: met += left <= right; break;
+      case SPALDEP_OPERATOR_GREATER: met += left > right; break;
       default: met += left >= right; break;
     }
   }
   return 5 * met >= k->met_percent;
 }
 
+/* An attribute to hold another one against: often the same, or one with numbers of its size. */
+static unsigned any_against(struct random *r, unsigned attribute) {
+  if (chance(r, attribute == SPALDEP_ATTRIBUTE_WAVE ? 30 : 60)) return attribute;
+  if (attribute == SPALDEP_ATTRIBUTE_WAVE)
+    return PICK(r, SPALDEP_ATTRIBUTE_CORE, SPALDEP_ATTRIBUTE_SLOT, SPALDEP_ATTRIBUTE_AMOUNT);
+  return between(r, attribute >= SPALDEP_ATTRIBUTE_SLOT ? SPALDEP_ATTRIBUTE_SLOT : SPALDEP_ATTRIBUTE_CORE,
+                 SPALDEP_ATTRIBUTE_WAVE);
+}
+
 static void put_any_condition(struct random *r, const struct knobs *k, uint8_t *at) {
-  unsigned variable = below(r, k->variables), attribute = below(r, 5), operator= below(r, 5);
-  if (attribute >= 3 && chance(r, 50)) operator= PICK(r, 2, 4);
+  unsigned variable = below(r, k->variables), operator= below(r, SPALDEP_OPERATOR_GREATER_EQUAL + 1);
+  unsigned attribute = chance(r, k->wave_percent) ? SPALDEP_ATTRIBUTE_WAVE : below(r, SPALDEP_ATTRIBUTE_WAVE + 1);
+  if (attribute >= SPALDEP_ATTRIBUTE_SLOT && chance(r, 50))
+    operator= PICK(r, SPALDEP_OPERATOR_LESS_EQUAL, SPALDEP_OPERATOR_GREATER_EQUAL);
   if (chance(r, 40)) {
-    put_condition(at, variable, attribute, operator, 0, 0, 0, constant_of(r, k, attribute));
+    put_condition(at, variable, attribute, operator, SPALDEP_FORM_CONSTANT, 0, 0, constant_of(r, k, attribute));
     return;
   }
-  unsigned second = chance(r, 15) ? variable : below(r, k->variables);
-  unsigned second_attribute = chance(r, 60) ? attribute : attribute >= 3 ? between(r, 3, 4) : below(r, 5);
-  put_condition(at, variable, attribute, operator, 1, second, second_attribute, 0);
+  unsigned second = chance(r, 15) ? variable : below(r, k->variables), against = any_against(r, attribute);
+  if (chance(r, 50))
+    put_condition(at, variable, attribute, operator, SPALDEP_FORM_ATTRIBUTE, second, against, 0);
+  else
+    put_condition(at, variable, against, operator, SPALDEP_FORM_ATTRIBUTE, second, attribute, 0);
 }
 
 void put_variables(struct random *r, const struct knobs *k, uint8_t *bytes) {
@@ -216,15 +245,24 @@ void put_variables(struct random *r, const struct knobs *k, uint8_t *bytes) {
   }
 }
 
+void put_is(uint8_t *at, unsigned variable, unsigned attribute, uint32_t constant) {
+  put_condition(at, variable, attribute, SPALDEP_OPERATOR_EQUAL, SPALDEP_FORM_CONSTANT, 0, 0, constant);
+}
+
+/* The condition that an attribute of v is that of variable 0, either way round. */
+static void put_same(struct random *r, uint8_t *at, unsigned v, unsigned attribute) {
+  bool swap = chance(r, 50);
+  put_condition(at, swap ? v : 0, attribute, SPALDEP_OPERATOR_EQUAL, SPALDEP_FORM_ATTRIBUTE, swap ? 0 : v, attribute,
+                0);
+}
+
 static unsigned put_conditions(struct random *r, const struct knobs *k, const unsigned *classes,
                                const struct test_case *with, uint8_t *bytes) {
   unsigned c = 0;
-  for (unsigned v = 0; v < k->variables; v++) {
-    if (chance(r, k->own_class_percent)) put_condition(bytes + 8 * c++, v, 2, 0, 0, 0, 0, classes[v]);
-    if (v > 0 && chance(r, k->core_joins_percent)) {
-      bool swap = chance(r, 50);
-      put_condition(bytes + 8 * c++, swap ? v : 0, 0, 0, 1, swap ? 0 : v, 0, 0);
-    }
+  for (unsigned v = 0; v < k->variables && c < 32; v++) {
+    if (chance(r, k->own_class_percent)) put_is(bytes + 8 * c++, v, SPALDEP_ATTRIBUTE_CLASS, classes[v]);
+    if (v > 0 && c < 32 && chance(r, k->core_joins_percent)) put_same(r, bytes + 8 * c++, v, SPALDEP_ATTRIBUTE_CORE);
+    if (v > 0 && c < 32 && chance(r, k->wave_joins_percent)) put_same(r, bytes + 8 * c++, v, SPALDEP_ATTRIBUTE_WAVE);
   }
   for (unsigned i = 0; i < k->conditions && c < 32; i++) {
     unsigned tries = 0;
@@ -253,19 +291,21 @@ static void make_pattern(struct random *r, const struct knobs *k, const unsigned
 /* ---- doubling ---- */
 
 /* One start and then events that two group variables share: each doubles the readings, up to 256 and over. Gaps part
-   the starts, and the report fills the longest result slice. */
+   the starts, and the report fills the longest result slice. What tells the events apart is the class or the wave. */
 static void make_doubling(struct random *r, struct test_case *out) {
   unsigned starts = PICK(r, 1, 1, 2, 12, 13, 13), events = starts > 2 ? 8 : between(r, 6, 9);
+  bool by_wave = chance(r, 30);
   size_t records = 0;
   memset(out->pattern, 0, PATTERN_ROOM);
   memset(out->block, 0, 16 * (size_t)(starts * (events + 2)));
   memcpy(out->pattern, (const uint8_t[]){0x13, 3, 0, 0, 0, 0, 1, 0, 0x10, 0x28, 0x28}, 11);
-  for (unsigned v = 0; v < 3; v++) put_condition(out->pattern + 11 + 8 * v, v, 2, 0, 0, 0, 0, v > 0);
+  for (unsigned v = 0; v < 3; v++)
+    put_is(out->pattern + 11 + 8 * v, v, by_wave ? SPALDEP_ATTRIBUTE_WAVE : SPALDEP_ATTRIBUTE_CLASS, v > 0);
   for (unsigned start = 0; start < starts; start++)
     for (unsigned i = 0; i < events + 2; i++, records++) {
       uint8_t *at = out->block + 16 * records;
       if (i == events + 1) put_gap(r, at);
-      if (i > 0 && i <= events) set_field(at, 8, 8, 16);
+      if (i > 0 && i <= events) set_field(at, by_wave ? 120 : 8, 8, by_wave ? 1 : 16);
       set_field(at, 16, 40, records);
     }
   out->pattern_len = 35;

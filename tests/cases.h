@@ -45,6 +45,8 @@ void set_field(uint8_t *bytes, size_t from, size_t width, uint64_t value);
 
 void put_condition(uint8_t *at, unsigned variable, unsigned attribute, unsigned operator, unsigned form,
                    unsigned second_variable, unsigned second_attribute, uint32_t constant);
+/* The condition that an attribute is a constant. */
+void put_is(uint8_t *at, unsigned variable, unsigned attribute, uint32_t constant);
 uint64_t time_of(const struct test_case *c, size_t record);
 
 /* Break a rule or two, or none by chance. The bytes behind a slice that grows are 0. */

@@ -4,9 +4,10 @@
  * compare [narrow] case SEED    the one case with that seed, with its bytes
  *
  * Of each call: the answer, and every byte of the slices that it was lent. Of each case: both passes against each
- * other. It prints how often each call gave each refusal, and its last line is 'N passed, M failed'. A refusal that a
- * call has and that no case met is a failure, so is each further thing that it counts, and so is a call that does not
- * end within its time. `narrow` has no wide cases (cases.h), for a start-by-start pass that tries every reading.
+ * other and, where the pattern asks no wave, against themselves on the same block with waves of 0. It prints how often
+ * each call gave each refusal, and its last line is 'N passed, M failed'. A refusal that a call has and that no case
+ * met is a failure, so is each further thing that it counts, and so is a call that does not end within its time.
+ * `narrow` has no wide cases (cases.h), for a start-by-start pass that tries every reading.
  */
 #define _DEFAULT_SOURCE
 #include <inttypes.h>
@@ -19,8 +20,30 @@
 #include "cases.h"
 #include "reference.h"
 #include "rows.h"
+#include "rules.h"
 #include "spaldep.h"
 #include "tally.h"
+#include "waves.h"
+
+/* ---- the header's numbers ---- */
+
+#define SAME(header, reference) _Static_assert((int)(header) == (int)(reference), #header)
+
+SAME(SPALDEP_ATTRIBUTE_CORE, CORE);
+SAME(SPALDEP_ATTRIBUTE_TYPE, TYPE);
+SAME(SPALDEP_ATTRIBUTE_CLASS, CLASS);
+SAME(SPALDEP_ATTRIBUTE_SLOT, SLOT);
+SAME(SPALDEP_ATTRIBUTE_AMOUNT, AMOUNT);
+SAME(SPALDEP_ATTRIBUTE_WAVE, WAVE);
+SAME(SPALDEP_ATTRIBUTE_WAVE + 1, ATTRIBUTES);
+SAME(SPALDEP_OPERATOR_EQUAL, EQUAL);
+SAME(SPALDEP_OPERATOR_LESS, LESS);
+SAME(SPALDEP_OPERATOR_LESS_EQUAL, LESS_EQUAL);
+SAME(SPALDEP_OPERATOR_GREATER, GREATER);
+SAME(SPALDEP_OPERATOR_GREATER_EQUAL, GREATER_EQUAL);
+SAME(SPALDEP_OPERATOR_GREATER_EQUAL + 1, OPERATORS);
+SAME(SPALDEP_FORM_CONSTANT, WITH_CONSTANT);
+SAME(SPALDEP_FORM_ATTRIBUTE, WITH_ATTRIBUTE);
 
 /* ---- lent memory at its edges ---- */
 
@@ -104,6 +127,7 @@ static void count_input(uint64_t pattern_answer, uint64_t block_answer) {
     tally.met[MET_MOST_RECORDS] += spaldep_used(block_answer) == SPALDEP_BLOCK_RECORDS;
     tally.met[MET_NO_RECORDS] += spaldep_used(block_answer) == 0;
   }
+  count_waves(&now, pattern_answer, block_answer);
 }
 
 /* See tally.h. */
@@ -121,6 +145,7 @@ static void count_wide(void) {
   tally.met[MET_WIDE_ROOM] += !m->too_long && !report;
   tally.met[MET_WIDE_NEVER_FULL] += report && m->never_full > WIDE_BRANCHES;
   tally.met[MET_WIDE_JOINS] += m->joins;
+  tally.met[MET_WIDE_WAVE] += asks_wave(&now);
 }
 
 /* The numbers that a pass would write and the most readings live, found with every slice as long as it may be: the
@@ -158,11 +183,13 @@ static void run_case(uint64_t seed) {
   compare_measure();
   find_edges(&r, &used, &peak);
   compare_passes(SPALDEP_LIMIT_MAX, MOST_WORK, SPALDEP_RESULT_BYTES_MAX);
+  compare_without_waves(SPALDEP_LIMIT_MAX, MOST_WORK, SPALDEP_RESULT_BYTES_MAX);
   compare_by_rule(SPALDEP_LIMIT_MAX, MOST_WORK, SPALDEP_RESULT_BYTES_MAX);
   for (unsigned i = 0; i < (now.large ? 1 : 3); i++) {
     uint32_t limit = any_limit(&r, peak);
     size_t work_len = any_work_len(&r, limit), result_len = any_result_len(&r, used);
     compare_passes(limit, work_len, result_len);
+    if (i == 0) compare_without_waves(limit, work_len, result_len);
     if (i == 0) compare_by_rule(limit, work_len, result_len);
     if (i == 0 && !now.wide && seed % 4 == 0) compare_merged(result_len);
   }
@@ -190,6 +217,7 @@ static void run_changed_bench(const char *what, size_t at) {
   compare_listing(8 * SPALDEP_STEPS_MAX);
   compare_measure();
   compare_passes(SPALDEP_LIMIT_MAX, MOST_WORK, SPALDEP_RESULT_BYTES_MAX);
+  compare_without_waves(SPALDEP_LIMIT_MAX, MOST_WORK, SPALDEP_RESULT_BYTES_MAX);
   end_case();
 }
 

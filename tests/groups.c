@@ -5,7 +5,9 @@
 
 static const unsigned NOT_ASKED = 1u << VARIABLES;
 
-static bool is_join(const struct condition *k) { return k->form == 1 && k->variable != k->second_variable; }
+static bool is_join(const struct condition *k) {
+  return k->form == WITH_ATTRIBUTE && k->variable != k->second_variable;
+}
 
 static size_t side_of(struct view *w, unsigned variable, unsigned attribute) {
   size_t i = 0;
@@ -18,7 +20,7 @@ static size_t side_of(struct view *w, unsigned variable, unsigned attribute) {
    greatest. */
 static void add_join(struct view *w, const struct condition *k) {
   size_t first = side_of(w, k->variable, k->attribute), second = side_of(w, k->second_variable, k->second_attribute);
-  bool equal = k->operator== 0, below = k->operator== 1 || k->operator== 2;
+  bool equal = k->operator== EQUAL, below = k->operator== LESS || k->operator== LESS_EQUAL;
   w->join[w->joins++] = (struct join){k, first, second};
   if (equal || below) {
     w->side[first].greatest_for |= 1u << k->second_variable;

@@ -6,6 +6,7 @@
 #include <stdio.h>
 #include <string.h>
 
+#include "cases.h"
 #include "reference.h"
 #include "spaldep.h"
 
@@ -21,10 +22,18 @@ static const struct implementation implementations[] = {
     {"reference", reference_list_automaton, reference_forward, reference_start_by_start},
 };
 
-/* An event or, with kind 1, a gap; slot only of the gap. */
+/* A record. */
 struct entry {
   unsigned kind, core, type, slot;
   uint64_t time;
+  int32_t amount;
+  unsigned wave;
+};
+
+/* A condition. */
+struct asked {
+  unsigned variable, attribute, operator, form, second_variable, second_attribute;
+  uint32_t constant;
 };
 
 struct row {
@@ -39,39 +48,117 @@ struct row {
   uint32_t readings, peak;
   const uint16_t *result;
   size_t used;
+  const struct asked *asked; /* conditions behind the hex */
+  size_t asked_count;
 };
+
+#define COUNT(table) (sizeof(table) / sizeof *(table))
 
 #define BENCH \
   "13050000 00000064 101820 0400000000000000 1400000000000001 2400000000000002 0022000000000000 0024000000000000"
 
 static const struct entry bench[] = {
-    {0, 1, 3, 0, 10}, {0, 2, 17, 0, 20}, {0, 1, 17, 0, 30}, {0, 1, 17, 0, 40}, {0, 1, 33, 0, 50},  {0, 2, 3, 0, 60},
-    {1, 0, 0, 9, 70}, {0, 2, 33, 0, 80}, {0, 2, 17, 0, 90}, {0, 2, 3, 0, 100}, {0, 2, 17, 0, 110}, {0, 2, 33, 0, 120},
+    {0, 1, 3, 0, 10, 0, 0},  {0, 2, 17, 0, 20, 0, 0}, {0, 1, 17, 0, 30, 0, 0},  {0, 1, 17, 0, 40, 0, 0},
+    {0, 1, 33, 0, 50, 0, 0}, {0, 2, 3, 0, 60, 0, 0},  {1, 0, 0, 9, 70, 0, 0},   {0, 2, 33, 0, 80, 0, 0},
+    {0, 2, 17, 0, 90, 0, 0}, {0, 2, 3, 0, 100, 0, 0}, {0, 2, 17, 0, 110, 0, 0}, {0, 2, 33, 0, 120, 0, 0},
 };
 static const uint16_t bench_result[] = {12292, 0, 4098, 4099, 8196, 8196, 4104, 9, 4106, 8203, 8195, 9, 4106, 8203};
 
-static const struct entry one[] = {{0, 0, 0, 0, 5}};
+static const struct entry one[] = {{0, 0, 0, 0, 5, 0, 0}};
 static const uint16_t one_result[] = {0x2001, 0x0000};
-static const struct entry at_100[] = {{0, 0, 0, 0, 10}, {0, 0, 0, 0, 110}};
+static const struct entry at_100[] = {{0, 0, 0, 0, 10, 0, 0}, {0, 0, 0, 0, 110, 0, 0}};
 static const uint16_t at_100_result[] = {0x2002, 0x0000, 0x1001};
-static const struct entry at_101[] = {{0, 0, 0, 0, 10}, {0, 0, 0, 0, 111}};
+static const struct entry at_101[] = {{0, 0, 0, 0, 10, 0, 0}, {0, 0, 0, 0, 111, 0, 0}};
 
 /* c p d p with {c, d, p}, told apart by class: c@0 p@1 d@2 and nothing that passes over the first p. */
-static const struct entry cpdp[] = {{0, 0, 0, 0, 1}, {0, 0, 32, 0, 2}, {0, 0, 16, 0, 3}, {0, 0, 32, 0, 4}};
+static const struct entry cpdp[] = {
+    {0, 0, 0, 0, 1, 0, 0}, {0, 0, 32, 0, 2, 0, 0}, {0, 0, 16, 0, 3, 0, 0}, {0, 0, 32, 0, 4, 0, 0}};
 static const uint16_t cpdp_result[] = {0x2003, 0x0000, 0x2001, 0x1002};
 
+/* ---- waves ---- */
+
+#define WAVE_AT(time, wave) \
+  { 0, 0, 0, 0, time, 0, wave }
+#define HOLDS(variable, attribute, operator, constant) \
+  { variable, SPALDEP_ATTRIBUTE_##attribute, SPALDEP_OPERATOR_##operator, SPALDEP_FORM_CONSTANT, 0, 0, constant }
+#define HOLDS_OF(variable, attribute, operator, second, second_attribute)                                 \
+  {                                                                                                       \
+    variable, SPALDEP_ATTRIBUTE_##attribute, SPALDEP_OPERATOR_##operator, SPALDEP_FORM_ATTRIBUTE, second, \
+        SPALDEP_ATTRIBUTE_##second_attribute, 0                                                           \
+  }
+
+static const struct entry wave_255[] = {WAVE_AT(5, 255)};
+static const struct entry gap_wave[] = {WAVE_AT(5, 1), {1, 0, 0, 9, 6, 0, 1}};
+static const struct entry kind_2[] = {WAVE_AT(5, 1), {2, 0, 0, 0, 6, 0, 0}};
+static const struct entry kind_3_wave[] = {WAVE_AT(5, 1), {3, 0, 0, 0, 6, 0, 1}};
+
+/* Two events that differ in wave alone, either way round. */
+static const struct asked apart[] = {HOLDS(0, WAVE, EQUAL, 7), HOLDS(1, WAVE, EQUAL, 255)};
+static const struct entry waves_7_255[] = {WAVE_AT(1, 7), WAVE_AT(2, 255)};
+static const uint16_t waves_7_255_result[] = {0x2002, 0x0000, 0x1001};
+static const struct entry waves_255_7[] = {WAVE_AT(1, 255), WAVE_AT(2, 7)};
+static const uint16_t waves_255_7_result[] = {0x2002, 0x1000, 0x0001};
+
+/* No constant beside wave is negative, and those above 255 are above every wave. */
+static const struct asked above[] = {HOLDS(0, WAVE, LESS, 0xffffffff), HOLDS(0, WAVE, LESS, 0x80000000),
+                                     HOLDS(0, WAVE, LESS, 256), HOLDS(0, WAVE, GREATER, 254)};
+
+/* Amount -1 is below every wave: it is not wave 255. */
+static const struct asked is_amount[] = {HOLDS_OF(0, WAVE, EQUAL, 0, AMOUNT)};
+static const struct entry amounts[] = {{0, 0, 0, 0, 1, -1, 255}, {0, 0, 0, 0, 2, 255, 255}};
+static const uint16_t amounts_result[] = {0x2001, 0x0001};
+static const struct asked amount_below[] = {HOLDS_OF(0, AMOUNT, LESS, 1, WAVE)};
+static const struct entry amount_then_wave[] = {{0, 0, 0, 0, 1, -1, 9}, {0, 0, 0, 0, 2, 0, 0}};
+
+/* Wave 255 is not below slot 255, and below slot 256. */
+static const struct asked slot_at_most[] = {HOLDS_OF(0, WAVE, GREATER_EQUAL, 1, SLOT)};
+static const struct entry wave_then_slots[] = {WAVE_AT(1, 255), {0, 0, 0, 256, 2, 0, 0}, {0, 0, 0, 255, 3, 0, 0}};
+static const uint16_t wave_then_slots_result[] = {0x2002, 0x0000, 0x1002};
+
+/* The loop of Rule 5.3, by wave: uploads of another wave than the bind's are not taken. */
+static const struct asked same_wave[] = {HOLDS(0, CLASS, EQUAL, 0), HOLDS(1, CLASS, EQUAL, 1),
+                                         HOLDS_OF(0, WAVE, EQUAL, 1, WAVE)};
+static const struct entry loop[] = {
+    {0, 0, 0, 0, 1, 0, 2}, {0, 0, 16, 0, 2, 0, 2}, {0, 0, 16, 0, 3, 0, 3}, {0, 0, 16, 0, 4, 0, 2}};
+static const uint16_t loop_result[] = {0x2003, 0x0000, 0x1001, 0x1003};
+
+/* The attribute behind wave, on either side. */
+static const struct asked first_6[] = {
+    HOLDS(0, WAVE, EQUAL, 0), {0, SPALDEP_ATTRIBUTE_WAVE + 1, SPALDEP_OPERATOR_EQUAL, SPALDEP_FORM_CONSTANT, 0, 0, 0}};
+static const struct asked second_6[] = {
+    HOLDS_OF(0, WAVE, EQUAL, 0, WAVE),
+    {0, SPALDEP_ATTRIBUTE_WAVE, SPALDEP_OPERATOR_EQUAL, SPALDEP_FORM_ATTRIBUTE, 0, SPALDEP_ATTRIBUTE_WAVE + 1, 0}};
+
+#define REPORTED(name, pattern, asked, entries, peak, result) \
+  { name, pattern, entries, COUNT(entries), 256, 32768, 0, 0, 1, peak, result, COUNT(result), asked, COUNT(asked) }
+#define REFUSED(name, pattern, asked, entries, code, place) \
+  { name, pattern, entries, COUNT(entries), 256, 32768, code, place, 0, 0, NULL, 0, asked, COUNT(asked) }
+
 static const struct row rows[] = {
-    {"the bench, P1", BENCH, bench, 12, 256, 32768, 0, 0, 3, 5, bench_result, 14},
-    {"P3", BENCH, bench, 12, 5, 32768, 0, 0, 3, 5, bench_result, 14},
-    {"P4", BENCH, bench, 12, 4, 32768, 10, 5, 3, 0, bench_result, 14},
-    {"P5", BENCH, bench, 12, 256, 14, 0, 0, 3, 5, bench_result, 14},
-    {"P6", BENCH, bench, 12, 256, 13, 11, 0, 0, 0, NULL, 0},
-    {"P7", BENCH, bench, 0, 256, 32768, 0, 0, 0, 0, NULL, 0},
-    {"P8", "1100000000000000 10", one, 1, 256, 32768, 0, 0, 1, 1, one_result, 2},
-    {"P9", "1200000000000064 10 20", at_100, 2, 256, 32768, 0, 0, 1, 2, at_100_result, 3},
-    {"P10", "1200000000000064 10 20", at_101, 2, 256, 32768, 0, 0, 0, 1, NULL, 0},
+    {"the bench, P1", BENCH, bench, 12, 256, 32768, 0, 0, 3, 5, bench_result, 14, NULL, 0},
+    {"P3", BENCH, bench, 12, 5, 32768, 0, 0, 3, 5, bench_result, 14, NULL, 0},
+    {"P4", BENCH, bench, 12, 4, 32768, 10, 5, 3, 0, bench_result, 14, NULL, 0},
+    {"P5", BENCH, bench, 12, 256, 14, 0, 0, 3, 5, bench_result, 14, NULL, 0},
+    {"P6", BENCH, bench, 12, 256, 13, 11, 0, 0, 0, NULL, 0, NULL, 0},
+    {"P7", BENCH, bench, 0, 256, 32768, 0, 0, 0, 0, NULL, 0, NULL, 0},
+    {"P8", "1100000000000000 10", one, 1, 256, 32768, 0, 0, 1, 1, one_result, 2, NULL, 0},
+    {"P9", "1200000000000064 10 20", at_100, 2, 256, 32768, 0, 0, 1, 2, at_100_result, 3, NULL, 0},
+    {"P10", "1200000000000064 10 20", at_101, 2, 256, 32768, 0, 0, 0, 1, NULL, 0, NULL, 0},
     {"c p d p", "1303000000000064 10 10 10 0400000000000000 1400000000000001 2400000000000002", cpdp, 4, 256, 32768, 0,
-     0, 1, 4, cpdp_result, 4},
+     0, 1, 4, cpdp_result, 4, NULL, 0},
+    {"an event of wave 255", "1100000000000064 10", wave_255, 1, 256, 32768, 0, 0, 1, 1, one_result, 2, NULL, 0},
+    {"a gap of wave 1", "1100000000000064 10", gap_wave, 2, 256, 32768, 6, 1, 0, 0, NULL, 0, NULL, 0},
+    {"kind 2", "1100000000000064 10", kind_2, 2, 256, 32768, 6, 1, 0, 0, NULL, 0, NULL, 0},
+    {"kind 3 with a last byte", "1100000000000064 10", kind_3_wave, 2, 256, 32768, 6, 1, 0, 0, NULL, 0, NULL, 0},
+    REPORTED("waves 7 and 255", "1202000000000064 10 10", apart, waves_7_255, 2, waves_7_255_result),
+    REPORTED("waves 255 and 7", "1202000000000064 10 10", apart, waves_255_7, 2, waves_255_7_result),
+    REPORTED("wave below constants", "1104000000000064 10", above, wave_255, 1, one_result),
+    REPORTED("wave is amount", "1101000000000064 10", is_amount, amounts, 1, amounts_result),
+    REPORTED("amount below wave", "1201000000000064 10 20", amount_below, amount_then_wave, 2, waves_7_255_result),
+    REPORTED("wave and slots", "1201000000000064 10 20", slot_at_most, wave_then_slots, 3, wave_then_slots_result),
+    REPORTED("a loop by wave", "1203000000000064 10 18", same_wave, loop, 4, loop_result),
+    REFUSED("attribute 6, first side", "1102000000000064 10", first_6, wave_255, 4, 1),
+    REFUSED("attribute 6, second side", "1102000000000064 10", second_6, wave_255, 4, 1),
 };
 
 static size_t from_hex(const char *text, uint8_t *bytes) {
@@ -87,20 +174,32 @@ static size_t from_hex(const char *text, uint8_t *bytes) {
 }
 
 static size_t to_block(const struct entry *entries, size_t records, uint8_t *block) {
-  memset(block, 0, 16 * records);
   for (size_t i = 0; i < records; i++) {
     uint8_t *at = block + 16 * i;
-    at[0] = (uint8_t)(entries[i].kind << 6 | entries[i].core);
-    at[1] = (uint8_t)entries[i].type;
-    for (unsigned b = 0; b < 5; b++) at[2 + b] = (uint8_t)(entries[i].time >> (32 - 8 * b));
-    at[10] = (uint8_t)entries[i].slot;
+    set_field(at, 0, 2, entries[i].kind);
+    set_field(at, 2, 6, entries[i].core);
+    set_field(at, 8, 8, entries[i].type);
+    set_field(at, 16, 40, entries[i].time);
+    set_field(at, 56, 32, entries[i].slot);
+    set_field(at, 88, 32, (uint32_t)entries[i].amount);
+    set_field(at, 120, 8, entries[i].wave);
   }
   return 16 * records;
 }
 
+static size_t to_pattern(const struct row *row, uint8_t *pattern) {
+  size_t length = from_hex(row->pattern, pattern);
+  for (size_t i = 0; i < row->asked_count; i++, length += 8) {
+    const struct asked *k = &row->asked[i];
+    put_condition(pattern + length, k->variable, k->attribute, k->operator, k->form, k->second_variable,
+                  k->second_attribute, k->constant);
+  }
+  return length;
+}
+
 size_t bench_pattern(uint8_t *pattern) { return from_hex(BENCH, pattern); }
 
-size_t bench_block(uint8_t *block) { return to_block(bench, sizeof bench / sizeof *bench, block); }
+size_t bench_block(uint8_t *block) { return to_block(bench, COUNT(bench), block); }
 
 static bool result_is(const uint8_t *result, size_t numbers, const uint16_t *expected, size_t used) {
   for (size_t i = 0; i < numbers; i++)
@@ -117,7 +216,7 @@ static bool answer_is(uint64_t answer, unsigned code, uint32_t place, uint32_t u
 static bool row_holds(const struct implementation *i, const struct row *row) {
   static uint8_t pattern[512], block[16 * 16], work[SPALDEP_WORK_BYTES(SPALDEP_LIMIT_MAX)];
   static uint8_t result[SPALDEP_RESULT_BYTES_MAX];
-  size_t pattern_len = from_hex(row->pattern, pattern), block_len = to_block(row->entries, row->records, block);
+  size_t pattern_len = to_pattern(row, pattern), block_len = to_block(row->entries, row->records, block);
   bool accepted = row->code == 0, by_starts = accepted || row->code == SPALDEP_REFUSED_LIVE;
   uint32_t used = (uint32_t)row->used;
   memset(result, 0xff, sizeof result);
@@ -152,10 +251,9 @@ static void count(const struct implementation *i, const char *name, bool holds, 
 }
 
 void rows_run(uint64_t *passed, uint64_t *failed) {
-  for (size_t k = 0; k < sizeof implementations / sizeof *implementations; k++) {
+  for (size_t k = 0; k < COUNT(implementations); k++) {
     const struct implementation *i = &implementations[k];
-    for (size_t row = 0; row < sizeof rows / sizeof *rows; row++)
-      count(i, rows[row].name, row_holds(i, &rows[row]), passed, failed);
+    for (size_t row = 0; row < COUNT(rows); row++) count(i, rows[row].name, row_holds(i, &rows[row]), passed, failed);
     count(i, "P2", listing_holds(i, BENCH, 7, 0x0032800000000014), passed, failed);
     count(i, "the example of 17 steps", listing_holds(i, "1400000000000108 10 18 10 20", 17, 0x0073800000000000),
           passed, failed);

@@ -1,4 +1,5 @@
-/* The rows of Rule 10.2, and two things more that the rules settle, run on the library and on the reference. */
+/* The rows of Rule 10.2, and more that the rules settle, of waves above all, run on the library and on the reference.
+ */
 #ifndef ROWS_H
 #define ROWS_H
 

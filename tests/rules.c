@@ -68,7 +68,7 @@ static bool variable_in_order(const struct pattern *p, unsigned v, const uint8_t
 static bool condition_in_order(const struct pattern *p, const struct condition *k, const uint8_t *bytes) {
   if (k->variable >= p->n || k->attribute >= ATTRIBUTES || k->operator>= OPERATORS) return false;
   if (field(bytes, 18, 14) != 0) return false;
-  if (k->form == 0) return k->second_variable == 0 && k->second_attribute == 0;
+  if (k->form == WITH_CONSTANT) return k->second_variable == 0 && k->second_attribute == 0;
   return k->second_variable < p->n && k->second_attribute < ATTRIBUTES && field(bytes, 32, 32) == 0;
 }
 
@@ -105,11 +105,10 @@ uint64_t read_pattern(const uint8_t *bytes, size_t length, struct pattern *p) {
 
 /* ---- blocks ---- */
 
-/* Rules 1.3 and 8.6. */
-static bool record_in_order(const struct record *r, const uint8_t *bytes) {
-  if (r->kind > GAP || bytes[15] != 0) return false;
-  if (r->kind == GAP) return r->core == 0 && r->type == 0 && r->amount == 0 && r->slot >= 1;
-  return true;
+/* Rules 1.3 and 8.6: nothing is asked of an event's fields. */
+static bool record_in_order(const struct record *r) {
+  if (r->kind == GAP) return r->core == 0 && r->type == 0 && r->amount == 0 && r->wave == 0 && r->slot >= 1;
+  return r->kind == EVENT;
 }
 
 /* Rules 1.1, 1.2 and 1.5, asked in the order of Rule 8.14: 0, or the refusal as an answer. */
@@ -125,7 +124,8 @@ uint64_t read_block(const uint8_t *bytes, size_t length, struct block *b) {
     r->time = field(at, 16, 40);
     r->slot = (int64_t)field(at, 56, 32);
     r->amount = two_complement(field(at, 88, 32));
-    if (!record_in_order(r, at)) return refusal(6, i);
+    r->wave = small_field(at, 120, 8);
+    if (!record_in_order(r)) return refusal(6, i);
     if (i > 0 && r->time <= b->record[i - 1].time) return refusal(7, i);
   }
   b->count = length / RECORD_BYTES;
@@ -149,17 +149,18 @@ int64_t value(const struct record *r, unsigned attribute) {
     case TYPE: return r->type;
     case CLASS: return class_of(r->type);
     case SLOT: return r->slot;
-    default: return r->amount;
+    case AMOUNT: return r->amount;
+    default: return r->wave;
   }
 }
 
 /* Rule 3.2. */
 bool compares(int64_t left, unsigned operator, int64_t right) {
   switch (operator) {
-    case 0: return left == right;
-    case 1: return left < right;
-    case 2: return left <= right;
-    case 3: return left > right;
+    case EQUAL: return left == right;
+    case LESS: return left < right;
+    case LESS_EQUAL: return left <= right;
+    case GREATER: return left > right;
     default: return left >= right;
   }
 }
@@ -193,7 +194,7 @@ bool order_mark(const struct pattern *p, unsigned state, unsigned v) {
 
 /* Rule 4.4: the condition is about v, and all else that it is about is bound. */
 bool carries(const struct condition *k, unsigned state, unsigned v) {
-  if (k->form == 0) return k->variable == v;
+  if (k->form == WITH_CONSTANT) return k->variable == v;
   if (k->variable != v && k->second_variable != v) return false;
   return (k->variable == v || has(state, k->variable)) && (k->second_variable == v || has(state, k->second_variable));
 }
@@ -209,7 +210,7 @@ static unsigned state_after(const struct reading *r, size_t bindings) {
 /* Rule 3.3: whether a condition holds with `first` for its variable and `second` for its second variable. */
 bool holds(const struct block *b, const struct condition *k, size_t first, size_t second) {
   int64_t left = value(&b->record[first], k->attribute);
-  int64_t right = k->form == 0 ? k->constant : value(&b->record[second], k->second_attribute);
+  int64_t right = k->form == WITH_CONSTANT ? k->constant : value(&b->record[second], k->second_attribute);
   return compares(left, k->operator, right);
 }
 
@@ -217,7 +218,7 @@ bool holds(const struct block *b, const struct condition *k, size_t first, size_
    is about v alone, on one side or on both, asks the new event and no earlier one. */
 static bool condition_holds(const struct block *b, const struct condition *k, const struct reading *r, size_t bindings,
                             unsigned v, size_t event) {
-  if (k->form == 0 || k->variable == k->second_variable) return holds(b, k, event, event);
+  if (k->form == WITH_CONSTANT || k->variable == k->second_variable) return holds(b, k, event, event);
   unsigned other = k->variable == v ? k->second_variable : k->variable;
   for (size_t i = 0; i < bindings; i++) {
     if (r->binding[i].variable != other) continue;

@@ -24,8 +24,9 @@ enum {
   STEP_BYTES = 8
 };
 
-enum { CORE, TYPE, CLASS, SLOT, AMOUNT, ATTRIBUTES };
-enum { OPERATORS = 5 };
+enum { CORE, TYPE, CLASS, SLOT, AMOUNT, WAVE, ATTRIBUTES };
+enum { EQUAL, LESS, LESS_EQUAL, GREATER, GREATER_EQUAL, OPERATORS };
+enum { WITH_CONSTANT, WITH_ATTRIBUTE };
 enum { EVENT, GAP };
 enum { MARK_WINDOW = 1, MARK_END = 2, MARK_GAP = 3 };
 
@@ -43,7 +44,7 @@ struct pattern {
 };
 
 struct record {
-  unsigned kind, core, type;
+  unsigned kind, core, type, wave;
   uint64_t time;
   int64_t slot, amount;
 };

@@ -9,6 +9,7 @@ static void any_knobs(struct random *r, struct knobs *k) {
   k->own_class_percent = PICK(r, 100, 90, 70, 30, 0);
   k->shared_percent = PICK(r, 0, 0, 30, 60);
   k->core_joins_percent = PICK(r, 0, 0, 50, 100);
+  k->wave_joins_percent = PICK(r, 0, 0, 0, 0, 0, 100);
   k->conditions = PICK(r, 0, 0, 1, 2, 4, 8);
   k->met_percent = PICK(r, 0, 30, 60, 90);
   k->edge_percent = PICK(r, 0, 10, 50, 100);
@@ -17,6 +18,7 @@ static void any_knobs(struct random *r, struct knobs *k) {
   k->fire_percent = PICK(r, 100, 100, 80, 50, 10);
   k->in_turn_percent = PICK(r, 0, 50, 90, 100, 100);
   k->cores = PICK(r, 1, 1, 2, 3, 64);
+  k->waves = PICK(r, 1, 1, 2, 4, 256);
   k->time_step = (uint64_t)1 << PICK(r, 0, 1, 4, 10, 26, 33);
   k->window = PICK(r, 0, 0, 1, k->variables - 1, k->variables, 2 * k->variables, 3 * k->variables, 20);
 }
@@ -35,26 +37,32 @@ static void long_knobs(struct random *r, struct knobs *k) {
   k->fire_percent = PICK(r, 100, 95, 80);
   k->in_turn_percent = PICK(r, 0, 50, 100);
   k->cores = PICK(r, 1, 1, 1, 2);
+  k->waves = PICK(r, 1, 4);
   k->time_step = PICK(r, 1, 10);
   k->window = PICK(r, 28, 31, 32, 33, 34, 36, 0);
 }
 
-/* Readings near 32 bindings that take their records at different rates: each core has a start of its own, and its
-   readings bind the events of that core. The 33rd binding met first need not have the least record. */
+/* Readings near 32 bindings that take their records at different rates: each core, or each wave, has a start of its
+   own, and its readings bind the events of that core or wave. The 33rd binding met first need not have the least
+   record. */
 static void rates_knobs(struct random *r, struct knobs *k) {
+  unsigned parts = between(r, 2, 3);
+  bool by_wave = chance(r, 40);
   *k = (struct knobs){.shape = "rates", .effort = 6000, .own_class_percent = 100, .time_step = 1};
   k->variables = PICK(r, 2, 2, 3);
   k->sets = k->variables;
   k->group_percent = 100;
   k->first_single = true;
-  k->core_joins_percent = 100;
-  k->cores = between(r, 2, 3);
-  k->records = 42 * k->cores;
+  k->core_joins_percent = by_wave ? 0 : 100;
+  k->wave_joins_percent = by_wave ? 100 : 0;
+  k->cores = by_wave ? 1 : parts;
+  k->waves = by_wave ? parts : PICK(r, 1, 256);
+  k->records = 42 * parts;
   k->fire_percent = PICK(r, 100, 95);
   k->last_percent = PICK(r, 80, 90);
   k->in_turn_percent = PICK(r, 0, 100);
   k->gap_percent = PICK(r, 0, 0, 0, 1);
-  k->window = PICK(r, 0, 34 * k->cores, k->records, k->records);
+  k->window = PICK(r, 0, 34 * parts, k->records, k->records);
 }
 
 /* Sets whose variables ask for little, so that readings branch and the limit is met. */
@@ -81,7 +89,7 @@ static void gaps_knobs(struct random *r, struct knobs *k) {
   k->window = PICK(r, 0, 2, 4, 8);
 }
 
-/* Conditions between two variables, of slots and amounts at their edges. */
+/* Conditions between two variables, of slots, amounts and waves at their edges. */
 static void joins_knobs(struct random *r, struct knobs *k) {
   any_knobs(r, k);
   k->shape = "joins";
@@ -94,6 +102,27 @@ static void joins_knobs(struct random *r, struct knobs *k) {
   k->records = between(r, 2, 30);
   k->fire_percent = 100;
   k->in_turn_percent = PICK(r, 50, 100);
+  k->window = PICK(r, 0, k->variables, 2 * k->variables, 3 * k->variables);
+}
+
+/* Conditions that ask wave: of constants, of another variable's attributes and of the same event's. */
+static void waves_knobs(struct random *r, struct knobs *k) {
+  any_knobs(r, k);
+  k->shape = "waves";
+  k->variables = between(r, 1, 4);
+  k->sets = between(r, 1, k->variables);
+  k->own_class_percent = PICK(r, 100, 70, 0);
+  k->core_joins_percent = PICK(r, 0, 0, 0, 50);
+  k->wave_joins_percent = PICK(r, 0, 0, 50);
+  k->conditions = between(r, 1, 4);
+  k->wave_percent = 100;
+  k->met_percent = PICK(r, 0, 50, 70, 90, 90);
+  k->edge_percent = PICK(r, 0, 30, 100);
+  k->records = between(r, 2, 24);
+  k->gap_percent = PICK(r, 0, 0, 3, 12);
+  k->fire_percent = 100;
+  k->in_turn_percent = PICK(r, 50, 100);
+  k->waves = PICK(r, 1, 2, 3, 4, 64, 256);
   k->window = PICK(r, 0, k->variables, 2 * k->variables, 3 * k->variables);
 }
 
@@ -157,8 +186,10 @@ void choose_knobs(struct random *r, struct knobs *k) {
     joins_knobs(r, k);
   else if (n < 600)
     automaton_knobs(r, k);
-  else if (n < 750)
+  else if (n < 740)
     tiny_knobs(r, k);
+  else if (n < 840)
+    waves_knobs(r, k);
   else
     any_knobs(r, k);
   if (k->variables > 6 * k->sets) k->sets = 2;

@@ -12,14 +12,17 @@ struct knobs {
   unsigned own_class_percent;  /* variables with the condition that class is theirs */
   unsigned shared_percent;     /* variables that share the class of another */
   unsigned core_joins_percent; /* variables with the condition that core is that of variable 0 */
+  unsigned wave_joins_percent; /* variables with the condition that wave is that of variable 0 */
   unsigned conditions;         /* further conditions of any sort, */
+  unsigned wave_percent;       /* those of them that ask wave in any case, */
   unsigned met_percent;        /* and the share of tried events that each must hold of */
-  unsigned edge_percent;       /* slots, amounts and constants at the edges of their ranges */
+  unsigned edge_percent;       /* slots, amounts, waves and constants at the edges of their ranges */
   unsigned records, gap_percent;
   unsigned fire_percent;    /* events of a class that some variable asks for */
   unsigned last_percent;    /* of those, the ones of the last variable's class */
   unsigned in_turn_percent; /* of the others, the ones that follow the pattern's order */
   unsigned cores;
+  unsigned waves;     /* events have waves below this, and those at the edges; 0 or 1: every wave is 0 */
   uint64_t time_step; /* the most cycles between two records */
   unsigned window;    /* records that a window holds, about; 0: any duration */
   uint64_t effort;    /* tests that the start-by-start pass may make */

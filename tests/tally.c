@@ -29,6 +29,24 @@ static const char *const met_names[METS] = {
     "accepted blocks of no records",
     "accepted patterns of the most variables",
     "accepted patterns of the most conditions",
+    "accepted patterns with a condition on wave as first attribute",
+    "accepted patterns with a condition on wave as second attribute",
+    "accepted patterns that hold wave against a constant above 255",
+    "accepted patterns that hold wave against core",
+    "accepted patterns that hold wave against slot",
+    "accepted patterns that hold wave against amount",
+    "accepted patterns that hold wave against another attribute of the same event",
+    "patterns refused with 4 for attribute 6 or 7 on the first side, and nothing else in that condition",
+    "patterns refused with 4 for attribute 6 or 7 on the second side, and nothing else in that condition",
+    "accepted blocks with an event that has a wave",
+    "accepted blocks with an event of wave 255",
+    "blocks refused with 6 for a gap that has a wave, and nothing else in that record",
+    "blocks refused with 6 for kind 2 or 3, with a last byte of 0",
+    "blocks refused with 6 for kind 2 or 3, with another last byte",
+    "reports of a pattern that asks wave, on a block with waves",
+    "forward passes that answer or report something else with waves of 0",
+    "passes without a condition on wave, held against the same block with waves of 0",
+    "reports among these",
     "passes where only the forward one refuses, with 10",
     "forward passes held against every list of bindings",
     "start-by-start passes of the reference held against its merged readings",
@@ -38,9 +56,10 @@ static const char *const met_names[METS] = {
     "wide cases with a report, and many branches that lead to none",
     "wide cases with many records behind full readings that nothing can follow",
     "wide cases with joins",
+    "wide cases with a condition on wave",
 };
 
-static bool is_wide(int met) { return met >= MET_WIDE_TOO_LONG && met <= MET_WIDE_JOINS; }
+static bool is_wide(int met) { return met >= MET_WIDE_TOO_LONG && met <= MET_WIDE_WAVE; }
 
 void print_answers(bool with_measure) {
   printf("answers by their code, 0 accepted; a dash where the call has no such refusal\n%-15s", "");

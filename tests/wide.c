@@ -2,8 +2,9 @@
 #include <string.h>
 
 #include "shapes.h"
+#include "spaldep.h"
 
-/* What the variables ask for. */
+/* What the variables ask for: of class, core or slot, or else of wave in their place. */
 enum family {
   NO_CONDITIONS,
   CLASS_OF_SET, /* the classes of the events alternate, or come in runs */
@@ -18,6 +19,12 @@ enum family {
 static const unsigned class_type[6] = {0, 16, 32, 64, 96, 128};
 
 static bool joined(enum family f) { return f >= SAME_CORE; }
+
+/* The attribute that a family's conditions ask for where it is not wave. */
+static unsigned own_attribute(enum family f) {
+  if (!joined(f)) return SPALDEP_ATTRIBUTE_CLASS;
+  return f == SAME_CORE ? SPALDEP_ATTRIBUTE_CORE : SPALDEP_ATTRIBUTE_SLOT;
+}
 
 struct sizes {
   unsigned records, gap; /* the record that is a gap, or past them all */
@@ -63,7 +70,8 @@ static void plain_wide(struct random *r, struct knobs *k, struct sizes *size) {
   k->window = size->records;
 }
 
-/* The readings of each start bind the events of its core: the 33rd binding met first need not have the least record. */
+/* The readings of each start bind the events of its core, or of its wave: the 33rd binding met first need not have the
+   least record. */
 static void rates_wide(struct random *r, struct knobs *k, struct sizes *size) {
   size->records = size->gap = between(r, 66, 80);
   k->variables = between(r, 3, 5);
@@ -76,7 +84,7 @@ static void rates_wide(struct random *r, struct knobs *k, struct sizes *size) {
 
 static void wide_knobs(struct random *r, enum family f, struct knobs *k, struct sizes *size) {
   unsigned n = below(r, 100);
-  *k = (struct knobs){.shape = "wide", .cores = 2};
+  *k = (struct knobs){.shape = "wide", .cores = 2, .waves = PICK(r, 1, 3, 256)};
   if (n < 15 && !joined(f))
     parted_wide(r, k, size);
   else if (n < 28 && !joined(f))
@@ -88,17 +96,23 @@ static void wide_knobs(struct random *r, enum family f, struct knobs *k, struct 
   k->records = size->records;
 }
 
-static unsigned wide_conditions(enum family f, const struct knobs *k, const uint8_t *variables, uint8_t *at) {
+/* The condition between two variables that an attribute of the one stands so to the same of the other. */
+static void put_join(uint8_t *at, unsigned variable, unsigned operator, unsigned second, unsigned attribute) {
+  put_condition(at, variable, attribute, operator, SPALDEP_FORM_ATTRIBUTE, second, attribute, 0);
+}
+
+static unsigned wide_conditions(enum family f, unsigned attribute, const struct knobs *k, const uint8_t *variables,
+                                uint8_t *at) {
   unsigned c = 0, last = k->variables - 1;
   for (unsigned v = 0; v <= last; v++) {
-    if (f == CLASS_OF_SET) put_condition(at + 8 * c++, v, 2, 0, 0, 0, 0, (variables[v] >> 4) - 1u);
-    if (f == LAST_SELDOM) put_condition(at + 8 * c++, v, 2, 0, 0, 0, 0, v == last);
-    if (f == OUT_OF_ORDER && v > 0 && v + 1 >= last) put_condition(at + 8 * c++, v, 2, 0, 0, 0, 0, v == last ? 2 : 1);
-    if (f == ONE_FOR_TWO && v > 0 && v + 1 >= last) put_condition(at + 8 * c++, v, 2, 0, 0, 0, 0, 1);
-    if (f == SAME_CORE && v > 0) put_condition(at + 8 * c++, v, 0, 0, 1, 0, 0, 0);
-    if (f == SLOT_AT_MOST && v > 0) put_condition(at + 8 * c++, v - 1, 3, 2, 1, v, 3, 0);
+    if (f == CLASS_OF_SET) put_is(at + 8 * c++, v, attribute, (variables[v] >> 4) - 1u);
+    if (f == LAST_SELDOM) put_is(at + 8 * c++, v, attribute, v == last);
+    if (f == OUT_OF_ORDER && v > 0 && v + 1 >= last) put_is(at + 8 * c++, v, attribute, v == last ? 2 : 1);
+    if (f == ONE_FOR_TWO && v > 0 && v + 1 >= last) put_is(at + 8 * c++, v, attribute, 1);
+    if (f == SAME_CORE && v > 0) put_join(at + 8 * c++, v, SPALDEP_OPERATOR_EQUAL, 0, attribute);
+    if (f == SLOT_AT_MOST && v > 0) put_join(at + 8 * c++, v - 1, SPALDEP_OPERATOR_LESS_EQUAL, v, attribute);
   }
-  if (f == LAST_FAILS && last > 0) put_condition(at + 8 * c++, last, 3, 3, 1, 0, 3, 0);
+  if (f == LAST_FAILS && last > 0) put_join(at + 8 * c++, last, SPALDEP_OPERATOR_GREATER, 0, attribute);
   return c;
 }
 
@@ -111,24 +125,41 @@ static void last_in_own_set(unsigned count, uint8_t *variables) {
     variables[count - 1] = (uint8_t)(variables[count - 1] + 0x10);
 }
 
-/* The records of the seldom events, or past them all, and how many of one class follow each other. */
+/* The records of the seldom events, or past them all, how many of one class follow each other, whether cores take
+   turns, and how many slots there are. */
 struct turns {
-  unsigned early, late, run;
+  unsigned early, late, run, cores, slots;
 };
 
-static unsigned class_at(enum family f, const struct knobs *k, const struct turns *t, unsigned record) {
+/* The number that the attribute asked for has in a record. */
+static unsigned number_at(struct random *r, enum family f, const struct knobs *k, const struct turns *t,
+                          unsigned record) {
   switch (f) {
     case CLASS_OF_SET: return record / t->run % k->sets;
     case LAST_SELDOM:
-    case ONE_FOR_TWO: return record == t->late;
+    case ONE_FOR_TWO:
+    case LAST_FAILS: return record == t->late;
     case OUT_OF_ORDER: return record == t->late ? 2 : record == t->early || record > t->late;
+    case SAME_CORE: return t->cores == 1 ? record % k->cores : below(r, k->cores);
+    case SLOT_AT_MOST: return below(r, t->slots);
     default: return 0;
   }
 }
 
-static void wide_block(struct random *r, enum family f, const struct knobs *k, unsigned gap, struct test_case *out) {
-  unsigned cores_turn = below(r, 2), slots = PICK(r, 1, 2, 4, 1000);
+static void put_number(uint8_t *at, unsigned attribute, unsigned number) {
+  switch (attribute) {
+    case SPALDEP_ATTRIBUTE_CORE: set_field(at, 2, 6, number); break;
+    case SPALDEP_ATTRIBUTE_CLASS: set_field(at, 8, 8, class_type[number]); break;
+    case SPALDEP_ATTRIBUTE_SLOT: set_field(at, 56, 32, number); break;
+    default: set_field(at, 120, 8, number); break;
+  }
+}
+
+static void wide_block(struct random *r, enum family f, unsigned attribute, const struct knobs *k, unsigned gap,
+                       struct test_case *out) {
   struct turns turns = {.early = PICK(r, 1, 2, 3, k->records, k->records, k->records), .run = PICK(r, 1, 8, 30)};
+  turns.cores = below(r, 2);
+  turns.slots = PICK(r, 1, 2, 4, attribute == SPALDEP_ATTRIBUTE_WAVE ? 256 : 1000);
   turns.late = chance(r, 40) ? k->records : between(r, k->records / 2, k->records - 1);
   uint64_t time = below(r, 100);
   out->block_len = 16 * (size_t)k->records;
@@ -141,10 +172,8 @@ static void wide_block(struct random *r, enum family f, const struct knobs *k, u
       set_field(at, 56, 32, 1);
       continue;
     }
-    set_field(at, 8, 8, class_type[class_at(f, k, &turns, i)]);
-    if (f == SAME_CORE) set_field(at, 2, 6, cores_turn == 1 ? i % k->cores : below(r, k->cores));
-    if (f == SLOT_AT_MOST) set_field(at, 56, 32, below(r, slots));
-    if (f == LAST_FAILS) set_field(at, 56, 32, i == turns.late);
+    set_field(at, 120, 8, below(r, k->waves));
+    put_number(at, attribute, number_at(r, f, k, &turns, i));
   }
 }
 
@@ -155,11 +184,12 @@ void make_wide(struct random *r, struct test_case *out) {
   struct knobs k;
   struct sizes size;
   wide_knobs(r, f, &k, &size);
-  wide_block(r, f, &k, size.gap, out);
+  unsigned attribute = chance(r, 30) ? SPALDEP_ATTRIBUTE_WAVE : own_attribute(f);
+  wide_block(r, f, attribute, &k, size.gap, out);
   memset(out->pattern, 0, PATTERN_ROOM);
   put_variables(r, &k, out->pattern + 8);
   if (k.first_single) first_in_own_set(k.variables, out->pattern + 8);
   if (f == OUT_OF_ORDER) last_in_own_set(k.variables, out->pattern + 8);
-  unsigned c = wide_conditions(f, &k, out->pattern + 8, out->pattern + 8 + k.variables);
+  unsigned c = wide_conditions(f, attribute, &k, out->pattern + 8, out->pattern + 8 + k.variables);
   put_header(r, &k, c, out);
 }
