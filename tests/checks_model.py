@@ -495,7 +495,7 @@ def write(folder):
     rows = BLOCKS + PATTERNS
     lines = [line_of(row) for row in rows]
     codes = [line.split(" ")[0] for row, line in zip(rows, lines) if not row.startswith("#")]
-    assert all(codes.count(str(code)) >= 3 for code in range(8)), "each refusal at least three times"
+    assert all(codes.count(str(code)) >= 12 for code in range(8)), "each refusal at least twelve times"
     table = "".join(row + "\n" for row in rows)
     assert len(table) <= 65536, "the program reads so much"
     for name, text in ("stdin", table), ("stdout", "".join(line + "\n" for line in lines)):
