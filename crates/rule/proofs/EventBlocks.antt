@@ -94,7 +94,7 @@ module _ (n i : ℕ) (l : i < n) where
         time = number-from 2 5 (omega arith) k;
         slot = number-from 7 4 (omega arith) k;
         amount = number-from 11 4 (omega arith) k;
-        last = byte-at n i 15 l (omega arith) k;
+        wave = byte-at n i 15 l (omega arith) k;
       }
 
 pub record-is : (n i : ℕ) → n ≤ mostRecords → i < n → recordAt (events n) i ≡ event i
