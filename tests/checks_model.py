@@ -12,7 +12,7 @@ import sys
 
 # ---- Rules 1.2 and 2.1 to 2.3: fields, the highest bits first ----
 
-RECORD = (2, 6, 8, 40, 32, 32, 8)  # kind, core, type, time, slot, amount, zero
+RECORD = (2, 6, 8, 40, 32, 32, 8)  # kind, core, type, time, slot, amount, wave
 HEADER = (4, 4, 8, 8, 40)  # edition, variables, conditions, zero, duration
 VARIABLE = (4, 1, 3)  # set number, group flag, zero
 CONDITION = (4, 3, 3, 1, 4, 3, 14, 32)  # variable, attribute, operator, form, second of both, zero, constant
@@ -41,10 +41,10 @@ def check_block(block):
         return 5, 0, 0
     times = []
     for i in range(len(block) // 16):
-        kind, core, event_type, time, slot, amount, zero = fields(block[16 * i : 16 * i + 16], RECORD)
-        if kind in (2, 3) or zero != 0:
+        kind, core, event_type, time, slot, amount, wave = fields(block[16 * i : 16 * i + 16], RECORD)
+        if kind in (2, 3):
             return 6, i, 0
-        if kind == 1 and not (core == event_type == amount == 0 and slot >= 1):
+        if kind == 1 and not (core == event_type == amount == wave == 0 and slot >= 1):
             return 6, i, 0
         if times and not time > times[-1]:
             return 7, i, 0
@@ -59,11 +59,11 @@ def variable_keeps_rules(number, zero, before):
 
 
 def condition_keeps_rules(n, variable, attribute, operator, form, variable2, attribute2, zero, constant):
-    if variable >= n or attribute in (5, 6, 7) or operator in (5, 6, 7) or zero != 0:
+    if variable >= n or attribute in (6, 7) or operator in (5, 6, 7) or zero != 0:
         return False
     if form == 0:
         return variable2 == 0 and attribute2 == 0
-    return constant == 0 and variable2 < n and attribute2 not in (5, 6, 7)
+    return constant == 0 and variable2 < n and attribute2 not in (6, 7)
 
 
 def check_pattern(pattern):
@@ -132,8 +132,8 @@ def line_of(row):
 # ---- The table: what rows are made of ----
 
 
-def event(time, core=0, event_type=0, slot=0, amount=0, kind=0, last=0):
-    return f"{kind << 6 | core:02x} {event_type:02x} {time:010x} {slot:08x} {amount:08x} {last:02x}"
+def event(time, core=0, event_type=0, slot=0, amount=0, kind=0, wave=0):
+    return f"{kind << 6 | core:02x} {event_type:02x} {time:010x} {slot:08x} {amount:08x} {wave:02x}"
 
 
 def gap(time, slot=1, **rest):
@@ -207,17 +207,38 @@ BLOCKS = [
     f"events {RECORDS} 15",
     f"events {RECORDS - 1} 15",
     f"events {RECORDS + 1} 1",
-    "# An event with every field as large as it can be",
+    "# An event with every field as large as it can be: with wave 0, and with wave 255",
     block(event(2**40 - 1, 63, 255, 2**32 - 1, 2**32 - 1)),
+    block(event(2**40 - 1, 63, 255, 2**32 - 1, 2**32 - 1, wave=0xFF)),
     "# Kind 2; kind 3; kind 2 in the second record",
     block(event(1, kind=2)),
     block(event(1, kind=3)),
     block(event(1), event(2, kind=2, slot=1)),
-    "# Last byte set: of an event (lowest and highest bit), of a gap, of the third record",
-    block(event(1, last=1)),
-    block(event(1, last=0x80)),
-    block(gap(1, last=1)),
-    block(event(1), event(2), event(3, last=0xFF)),
+    "# Kinds 2 and 3 whatever the last byte is: 1 and 255, and with the slot of a gap",
+    *[block(event(1, kind=kind, wave=wave)) for kind in (2, 3) for wave in (1, 0xFF)],
+    *[block(event(1), event(2, kind=kind, slot=1, wave=0x80)) for kind in (2, 3)],
+    "# Waves of events: lowest and highest bit, all bits; of the third record; each bit alone, then none",
+    block(event(1, wave=1)),
+    block(event(1, wave=0x80)),
+    block(event(1, wave=0xFF)),
+    block(event(1), event(2), event(3, wave=0xFF)),
+    block(*[event(bit + 1, wave=1 << bit) for bit in range(8)], event(9)),
+    "# Gaps with a wave: each bit alone, from the lowest, then all",
+    *[block(gap(1, wave=wave)) for wave in (*[1 << bit for bit in range(8)], 0xFF)],
+    "# Gaps with a wave and slot 0, a core, a type, an amount, the most entries lost",
+    block(gap(1, 0, wave=1)),
+    block(gap(1, core=1, wave=1)),
+    block(gap(1, event_type=1, wave=1)),
+    block(gap(1, amount=1, wave=1)),
+    block(gap(1, 2**32 - 1, wave=0xFF)),
+    "# Events and gaps: an event with a wave before a gap with one, before a gap with none, on both sides of that",
+    block(event(1, wave=7), gap(2, wave=7)),
+    block(event(1, wave=7), gap(2)),
+    block(event(1, wave=7), gap(2), event(3, wave=0xFF)),
+    "# The second gap and the third record with a wave; an event with a wave behind a gap with one",
+    block(gap(1), gap(2, wave=0x80)),
+    block(event(1), gap(2), gap(3, wave=0xFF), event(4)),
+    block(gap(1, wave=1), event(2, wave=1)),
     "# Gaps in order: one entry lost, the most, two gaps beside each other",
     block(gap(1)),
     block(gap(1, 2**32 - 1)),
@@ -238,30 +259,40 @@ BLOCKS = [
     block(event(0), event(0)),
     block(event(2**32), event(1)),
     block(event(2**32 - 1), event(2**32)),
+    "# Times are not counted with waves: equal times with rising waves, rising times with falling waves",
+    block(event(5, wave=1), event(5, wave=2)),
+    block(event(5, wave=2), event(6, wave=1), event(7)),
     "# Times at a gap: the gap equal, the gap falling; the event after it equal, between the two, as the event before it",
     block(event(10), gap(10)),
     block(event(10), gap(9)),
     block(event(10), gap(20), event(20)),
     block(event(10), gap(20), event(15)),
     block(event(10), gap(20), event(10)),
-    "# The last of 4,096 records: last byte set, kind 3, its time 0",
+    "# The last of 4,096 records: wave 1 and wave 255 of an event, kind 3, its time 0",
     f"events {RECORDS} 0 {LAST_RECORD + 15} 1",
+    f"events {RECORDS} 0 {LAST_RECORD + 15} 255",
     f"events {RECORDS} 0 {LAST_RECORD} 192",
     f"events {RECORDS} 0 {LAST_RECORD + 5} 0",
-    "# 5 before 6: a broken record and a byte too many, and 4,097 records of which the first is broken",
+    "# 5 before 6: a broken record, or a gap with a wave, and a byte too many; 4,097 records, the first broken",
     block(event(1, kind=3), "00"),
+    block(gap(1, wave=1), "00"),
     f"events {RECORDS + 1} 0 0 192",
     "# 5 before 7: a late record and a byte too many, and 4,097 records of which the last is late",
     block(event(5), event(5), "00"),
     f"events {RECORDS + 1} 0 {LAST_RECORD + 16 + 5} 0",
-    "# A record both broken and late: an event, a gap",
+    "# A record both broken and late: an event, a gap, a gap with a wave",
     block(event(5), event(5, kind=2)),
     block(event(5), gap(4, 0)),
+    block(event(5), gap(5, wave=1)),
     "# The first bad record: late then broken, broken then late, two broken, two late",
-    block(event(1), event(5), event(5), event(6, last=1)),
-    block(event(1), event(5), event(6, last=1), event(2)),
+    block(event(1), event(5), event(5), gap(6, wave=1)),
+    block(event(1), event(5), gap(6, wave=1), event(2)),
     block(event(1), event(2, kind=3), event(3, kind=2)),
     block(event(5), event(4), event(3)),
+    "# An event with a wave is no bad record: late before it, late behind it, two broken gaps behind it",
+    block(event(1), event(5), event(5), event(6, wave=1)),
+    block(event(1), event(5), event(6, wave=1), event(2)),
+    block(event(1, wave=1), event(2, wave=2), gap(3, wave=3), gap(4, 0)),
 ]
 
 # ---- The table: patterns ----
@@ -280,9 +311,9 @@ BENCH_PATTERN = pattern(BENCH_VARIABLES, BENCH_CONDITIONS)
 # Twelve variables in sets of 1, 2, 3 and 6, and 32 conditions in which no field is the same throughout
 MOST_VARIABLES = [0x18, 0x20, 0x28, 0x30, 0x30, 0x38, 0x40, 0x40, 0x48, 0x40, 0x40, 0x48]
 MOST_CONDITIONS = [
-    condition(i % 12, i % 5, i // 2 % 5, second=((i + 5) % 12, i // 3 % 5))
+    condition(i % 12, i // 2 % 6, i // 2 % 5, second=((i + 5) % 12, i // 3 % 6))
     if i % 2
-    else condition(i % 12, i % 5, i // 2 % 5, 2**32 - 1 - 3 * i)
+    else condition(i % 12, i // 2 % 6, i // 2 % 5, 2**32 - 1 - 3 * i)
     for i in range(32)
 ]
 
@@ -372,51 +403,89 @@ PATTERNS = [
     pattern(MOST_VARIABLES, [condition(12, 0, 0)]),
     "# Attribute 4, 5, 6, 7",
     *[one(condition(0, attribute, 0)) for attribute in (4, 5, 6, 7)],
-    "# Operator 4, 5, 6, 7",
+    "# Attribute 5, 6, 7 of the last variable, with the greatest operator and a constant; of form 1",
+    *[one(condition(2, attribute, 4, 255)) for attribute in (5, 6, 7)],
+    *[one(condition(0, attribute, 0, second=(1, 0))) for attribute in (5, 6, 7)],
+    "# Operator 4, 5, 6, 7; the same beside wave",
     *[one(condition(0, 0, operator)) for operator in (4, 5, 6, 7)],
-    "# Constants: the largest beside core, the sign bit beside amount",
+    *[one(condition(0, 5, operator)) for operator in (4, 5, 6, 7)],
+    "# Constants: the largest beside core, the sign bit beside amount; beside wave 255, 256, 2^31 and the largest",
     one(condition(0, 0, 0, 2**32 - 1), condition(1, 4, 1, 2**31)),
+    one(*[condition(0, 5, 1, constant) for constant in (255, 256, 2**31, 2**32 - 1)]),
     "# Form 0 with a second variable (1 and 8), with a second attribute (1 and 4), with both",
     one(condition(0, 0, 0, second=(1, 0), form=0)),
     one(condition(0, 0, 0, second=(8, 0), form=0)),
     one(condition(0, 0, 0, second=(0, 1), form=0)),
     one(condition(0, 0, 0, second=(0, 4), form=0)),
     one(condition(0, 0, 0, 7, second=(1, 1), form=0)),
+    "# Form 0 with a second attribute of 5, 6 and 7; with 5 beside wave; beside wave with a second variable",
+    *[one(condition(0, 0, 0, second=(0, attribute), form=0)) for attribute in (5, 6, 7)],
+    one(condition(0, 5, 0, 7, second=(0, 5), form=0)),
+    one(condition(0, 5, 0, 7, second=(1, 0), form=0)),
     "# Form 1 in order: second variable n - 1, second attribute 4, slot beside amount, one variable on both sides",
     one(condition(0, 3, 1, second=(2, 4)), condition(1, 4, 3, second=(1, 3))),
-    "# Form 1 with a constant: lowest and highest bit",
+    "# Form 1 in order: wave beside wave of the last variable, beside each attribute, each attribute beside wave",
+    one(condition(0, 5, 0, second=(2, 5))),
+    one(*[condition(0, 5, 2, second=(1, attribute)) for attribute in range(6)]),
+    one(*[condition(1, attribute, 2, second=(1, 5)) for attribute in range(6)]),
+    "# Form 1 with a constant: lowest and highest bit; beside wave on either side",
     one(condition(0, 0, 0, 1, second=(1, 0))),
     one(condition(0, 0, 0, 2**31, second=(1, 0))),
+    one(condition(0, 5, 0, 1, second=(1, 5))),
+    one(condition(0, 5, 0, 2**31, second=(1, 0))),
+    one(condition(0, 0, 0, 255, second=(1, 5))),
     "# Form 1 with second variable n, 15, and 12 of twelve",
     one(condition(0, 0, 0, second=(3, 0))),
     one(condition(0, 0, 0, second=(15, 0))),
     pattern(MOST_VARIABLES, [condition(0, 0, 0, second=(12, 0))]),
     "# Form 1 with second attribute 5, 6, 7",
     *[one(condition(0, 0, 0, second=(1, attribute))) for attribute in (5, 6, 7)],
-    "# Zero bits of a condition, from the highest to the lowest: each of the 14, then two of form 1",
+    "# Form 1 with wave in front and second attribute 6, 7; with attribute 6, 7 and wave as second; with 6, 7 twice",
+    *[one(condition(0, 5, 0, second=(1, attribute))) for attribute in (6, 7)],
+    *[one(condition(0, attribute, 0, second=(1, 5))) for attribute in (6, 7)],
+    *[one(condition(0, attribute, 0, second=(0, attribute))) for attribute in (6, 7)],
+    "# Wave of a variable n, and beside a second variable n",
+    one(condition(3, 5, 0)),
+    one(condition(0, 5, 0, second=(3, 5))),
+    "# Zero bits of a condition, from the highest to the lowest: each of the 14, two of form 1, two beside wave",
     *[one(condition(0, 0, 0, zero=1 << bit)) for bit in reversed(range(14))],
     one(condition(0, 0, 0, second=(1, 0), zero=1 << 13)),
     one(condition(0, 0, 0, second=(1, 0), zero=1)),
-    "# Conditions 1 and 3 bad; the last of 32 bad",
+    one(condition(0, 5, 0, zero=1 << 13)),
+    one(condition(0, 5, 0, second=(1, 5), zero=1)),
+    "# Conditions 1 and 3 bad; the last of 32 bad, by operator 5, by attribute 6, by second attribute 6",
     one(GOOD, condition(0, 7, 0), GOOD, condition(0, 0, 7)),
     pattern(MOST_VARIABLES, MOST_CONDITIONS[:31] + [condition(0, 0, 5)]),
+    pattern(MOST_VARIABLES, MOST_CONDITIONS[:31] + [condition(0, 6, 0)]),
+    pattern(MOST_VARIABLES, MOST_CONDITIONS[:31] + [condition(0, 0, 0, second=(11, 6))]),
+    "# The first bad condition: attributes 4 to 7 in a row, on either side; 7 then 6; a good one behind a bad one",
+    one(*[condition(0, attribute, 0) for attribute in (4, 5, 6, 7)]),
+    one(*[condition(0, 5, 0, second=(1, attribute)) for attribute in (4, 5, 6, 7)]),
+    one(condition(0, 5, 0), condition(0, 0, 0, second=(1, 7)), condition(0, 6, 0)),
+    one(GOOD, condition(0, 6, 0), condition(0, 5, 0)),
     "# 2 before length: edition, n, c and zero bits broken, with a byte missing or too many",
     pattern([], n=1, edition=2),
     pattern([0x10] * 2, n=0),
     pattern([0x10], c=33),
     pattern([0x10] * 2, n=1, zero=1),
-    "# 2 before 3 and 4: a good length, a broken variable and a broken condition",
+    "# 2 before 3 and 4: a good length, a broken variable and a broken condition; 2 before 4: attribute 6",
     pattern([0x20], [condition(1, 0, 0)], edition=0),
     pattern([0x20], [condition(1, 0, 0)], zero=4),
+    pattern([0x10], [condition(0, 6, 0)], edition=2),
     "# Length before 3: a broken variable, and a byte too many or missing",
     pattern([0x20, 0x10], n=1),
     pattern([0x10, 0x30], [GOOD[:-2]]),
     "# Length before 4: a broken condition, and a byte missing or too many",
     pattern([0x10], [condition(0, 7, 0)[:-2]]),
     pattern([0x10], [condition(0, 7, 0), "00"], c=1),
-    "# 3 before 4: the last variable and the first condition bad",
+    "# The length behind a wave: a good condition, and a byte missing or too many",
+    pattern([0x10], [condition(0, 5, 0)[:-2]]),
+    pattern([0x10], [condition(0, 5, 0), "00"], c=1),
+    "# 3 before 4: the last variable and the first condition bad, by variable, zero bits, attribute 6 on either side",
     pattern([0x10, 0x10, 0x30], [condition(3, 0, 0)]),
     pattern([0x10, 0x10, 0x11], [condition(0, 0, 0, zero=1)]),
+    pattern([0x10, 0x10, 0x30], [condition(0, 6, 0)]),
+    pattern([0x10, 0x10, 0x30], [condition(0, 5, 0, second=(1, 6))]),
 ]
 
 # ---- Writing ----
@@ -426,7 +495,7 @@ def write(folder):
     rows = BLOCKS + PATTERNS
     lines = [line_of(row) for row in rows]
     codes = [line.split(" ")[0] for row, line in zip(rows, lines) if not row.startswith("#")]
-    assert all(codes.count(str(code)) >= 3 for code in range(8)), "each refusal at least three times"
+    assert all(codes.count(str(code)) >= 12 for code in range(8)), "each refusal at least twelve times"
     table = "".join(row + "\n" for row in rows)
     assert len(table) <= 65536, "the program reads so much"
     for name, text in ("stdin", table), ("stdout", "".join(line + "\n" for line in lines)):

@@ -24,7 +24,7 @@ PAST, END, GAP = 1, 2, 3
 
 
 def value(record, attribute):
-    kind, core, event_type, time, slot, amount, zero = record
+    kind, core, event_type, time, slot, amount, wave = record
     if attribute == 0:
         return core
     if attribute == 1:
@@ -33,7 +33,9 @@ def value(record, attribute):
         return sum(event_type >= least for least in (16, 32, 64, 96, 128))
     if attribute == 3:
         return slot
-    return amount - 2**32 if amount >= 2**31 else amount
+    if attribute == 4:
+        return amount - 2**32 if amount >= 2**31 else amount
+    return wave
 
 
 def compare(operator, a, b):
@@ -308,10 +310,16 @@ REFUSED = [
     case(6, plain((1, 0), (3, 0)), THRICE),
     "# 4 at condition 2: its operator is 5",
     case(6, plain((1, 0), conditions=(condition(0, 0, 0), condition(0, 0, 4), condition(0, 0, 5))), THRICE),
+    "# 4 at condition 1: its attribute is 6, and the block broken too; its second attribute is 6",
+    case(6, plain((1, 0), conditions=(condition(0, 5, 0), condition(0, 6, 0))), [gap(10, wave=1)]),
+    case(6, plain((1, 0), conditions=(condition(0, 5, 0), condition(0, 5, 0, second=(0, 6)))), THRICE),
     "# 5: a byte too few",
     case(6, BENCH, [BENCH_RECORDS[:-2]]),
     "# 6 at record 1: kind 2; the next record is late",
     case(5, BENCH, [event(10), event(20, kind=2), event(15)]),
+    "# 6 at record 1, behind an event with a wave: a gap with one, kind 3 with one",
+    case(5, ONE, [event(10, wave=9), gap(20, wave=9), event(15)]),
+    case(5, ONE, [event(10, wave=9), event(20, kind=3, wave=9)]),
     "# 7 at record 1: equal times; and at record 2, a gap that falls",
     case(6, BENCH, [event(10), event(10)]),
     case(6, BENCH, [event(10), event(20), gap(15)]),
@@ -460,7 +468,137 @@ EXAMPLE_ROWS = [
     for row in (f"# Rule {caption}", case(40, pattern, records))
 ]
 
-TABLE = ROWS + EXAMPLE_ROWS + LENT + REFUSED + LIVE + RULE
+# ---- The table: waves ----
+
+CORE, TYPE, CLASS, SLOT, AMOUNT, WAVE = range(6)
+EQUAL, LESS, LESS_EQUAL, GREATER, GREATER_EQUAL = range(5)
+
+
+def constant(operator, number, waves, met):
+    """Events of these waves, and which of them stand so to a constant: with duration 0 each one is a reading."""
+    pattern = plain((1, 0), conditions=(condition(0, WAVE, operator, number),), duration=0)
+    lines = [f"{END if i == len(waves) - 1 else PAST} 0@{i}" for i in met]
+    return pattern, [event(10 + i, wave=wave) for i, wave in enumerate(waves)], lines
+
+
+def own(conditions, events, lines):
+    """A group variable, and conditions on two attributes of each of its events."""
+    joins = [condition(0, first, operator, second=(0, second)) for first, operator, second in conditions]
+    return plain((1, 1), conditions=joins), [event(10 + i, **one) for i, one in enumerate(events)], lines
+
+
+def joined_to(first, operator, second, bind, draws, lines):
+    """A bind, and the draw that it is joined to."""
+    conditions = (*BIND_THEN_DRAW, condition(0, first, operator, second=(1, second)))
+    records = [event(10, **bind)] + [event(11 + i, event_type=33, **draw) for i, draw in enumerate(draws)]
+    return plain((1, 0), (2, 0), conditions=conditions), records, lines
+
+
+BIND_THEN_DRAW = (condition(0, CLASS, EQUAL, 0), condition(1, CLASS, EQUAL, 2))
+RISING_WAVE = plain((1, 0), (2, 0), conditions=(condition(0, WAVE, LESS, second=(1, WAVE)),))
+ONE_WAVE = plain((1, 0), (1, 1), conditions=BY_TYPE + (condition(0, WAVE, EQUAL, second=(1, WAVE)),))
+NO_LOWER = plain((1, 1), (2, 0), conditions=BY_TYPE + (condition(1, WAVE, GREATER_EQUAL, second=(0, WAVE)),))
+NO_WAVE = plain((1, 1), conditions=(condition(0, WAVE, EQUAL, 0),))
+MINUS_ONE = 2**32 - 1
+
+# Of each caption the cases: pattern, records, and the lines that must come of them, worked out by hand
+WAVES = {
+    "Waves beside a constant, at the edges of each operator; no constant has a sign there": [
+        constant(EQUAL, 255, [254, 255], [1]),
+        constant(EQUAL, 256, [0], []),
+        constant(EQUAL, 2**32 - 1, [255], []),
+        constant(LESS, 255, [254, 255], [0]),
+        constant(LESS, 256, [255], [0]),
+        constant(LESS, 2**31, [0, 255], [0, 1]),
+        constant(LESS_EQUAL, 128, [128, 129], [0]),
+        constant(LESS_EQUAL, 2**32 - 1, [0, 255], [0, 1]),
+        constant(GREATER, 127, [127, 128], [1]),
+        constant(GREATER, 2**32 - 1, [0, 255], []),
+        constant(GREATER_EQUAL, 255, [254, 255], [1]),
+        constant(GREATER_EQUAL, 256, [255], []),
+        constant(GREATER_EQUAL, 2**31, [0, 255], []),
+    ],
+    "Two events that differ in wave and time alone: the wave rises, and falls": [
+        (RISING_WAVE, [event(10), event(11, wave=1)], ["2 0@0 1@1"]),
+        (RISING_WAVE, [event(10, wave=1), event(11)], []),
+    ],
+    "A bind joined to a draw: wave = wave; wave < wave, from 127 to 128": [
+        joined_to(WAVE, EQUAL, WAVE, {"wave": 7}, [{"wave": 8}, {"wave": 7}], ["2 0@0 1@2"]),
+        joined_to(WAVE, LESS, WAVE, {"wave": 127}, [{"wave": 127}, {"wave": 128}], ["2 0@0 1@2"]),
+    ],
+    "Wave = slot, with a slot of the same low byte; wave < slot, with a slot of 2^31": [
+        joined_to(WAVE, EQUAL, SLOT, {"wave": 200}, [{"slot": 456}, {"slot": 200}], ["2 0@0 1@2"]),
+        joined_to(WAVE, LESS, SLOT, {"wave": 255}, [{"slot": 255}, {"slot": 2**31}], ["2 0@0 1@2"]),
+    ],
+    "Wave and amount: 0 > -1, 255 is not -1; amount and wave: -1 < 0": [
+        joined_to(WAVE, GREATER, AMOUNT, {"wave": 0}, [{"amount": 0}, {"amount": MINUS_ONE}], ["2 0@0 1@2"]),
+        joined_to(WAVE, EQUAL, AMOUNT, {"wave": 255}, [{"amount": MINUS_ONE}, {"amount": 255}], ["2 0@0 1@2"]),
+        joined_to(AMOUNT, LESS, WAVE, {"amount": MINUS_ONE}, [{"wave": 0}], ["2 0@0 1@1"]),
+    ],
+    "One variable on both sides: wave = amount; amount < wave; slot = wave; wave < wave": [
+        own(
+            [(WAVE, EQUAL, AMOUNT)],
+            [{"wave": 3, "amount": 3}, {"wave": 4, "amount": 4}, {"wave": 4, "amount": 3}],
+            ["2 0@0 0@1", "2 0@1"],
+        ),
+        own([(AMOUNT, LESS, WAVE)], [{"amount": MINUS_ONE}, {"wave": 255, "amount": 255}], ["2 0@0"]),
+        own([(SLOT, EQUAL, WAVE)], [{"wave": 255, "slot": 511}, {"wave": 255, "slot": 255}], ["2 0@1"]),
+        own([(WAVE, LESS, WAVE)], [{"wave": 7}], []),
+    ],
+    "The same with core <= wave, wave < type and wave = class: all hold, then each fails alone": [
+        own(
+            [(CORE, LESS_EQUAL, WAVE), (WAVE, LESS, TYPE), (WAVE, EQUAL, CLASS)],
+            [
+                {"core": 2, "event_type": 33, "wave": 2},
+                {"core": 3, "event_type": 33, "wave": 2},
+                {"core": 0, "event_type": 0, "wave": 0},
+                {"core": 2, "event_type": 33, "wave": 3},
+            ],
+            ["2 0@0"],
+        ),
+    ],
+    "A group variable joined by its wave, in its set and to the set behind it": [
+        (
+            ONE_WAVE,
+            [event(10, wave=2), *(event(11 + i, 0, 1, wave=wave) for i, wave in enumerate((2, 3, 2)))],
+            ["2 0@0 1@1 1@3"],
+        ),
+        (ONE_WAVE, [event(10, 0, 1, wave=2), event(11, 0, 1, wave=3), event(12, wave=2)], []),
+        (
+            NO_LOWER,
+            [event(10, wave=5), event(11, wave=7), event(12, 0, 1, wave=6), event(13, 0, 1, wave=7)],
+            ["2 0@0 0@1 1@3", "2 0@1 1@3"],
+        ),
+    ],
+    "A gap has no wave to be asked for": [
+        (NO_WAVE, [event(10), gap(11), event(12)], ["3 0@0", "2 0@2"]),
+    ],
+}
+
+# The example of the rules: with waves that it does not ask for, and with waves in place of cores
+BENCH_LIST = [BENCH_RECORDS[at : at + 32] for at in range(0, len(BENCH_RECORDS), 32)]
+BENCH_WITH_WAVES = [r if r.startswith("40") else r[:30] + f"{250 - i:02x}" for i, r in enumerate(BENCH_LIST)]
+BENCH_WAVES = [r if r.startswith("40") else "00" + r[2:30] + r[:2] for r in BENCH_LIST]
+BENCH_BY_WAVE = plain(
+    (1, 0),
+    (1, 1),
+    (2, 0),
+    conditions=(
+        *(condition(v, CLASS, EQUAL, v) for v in range(3)),
+        *(condition(0, WAVE, EQUAL, second=(v, WAVE)) for v in (1, 2)),
+    ),
+)
+WAVE_ROWS = [
+    row
+    for caption, cases in WAVES.items()
+    for row in [f"# {caption}"] + [case(20, pattern, records, limit=16) for pattern, records, _ in cases]
+] + [
+    "# P1 with a wave in each event, which the pattern does not ask for; P1 with waves in place of cores",
+    case(28, BENCH, BENCH_WITH_WAVES, limit=5),
+    case(28, BENCH_BY_WAVE, BENCH_WAVES, limit=5),
+]
+
+TABLE = ROWS + EXAMPLE_ROWS + LENT + REFUSED + LIVE + RULE + WAVE_ROWS
 
 # ---- Writing ----
 
@@ -475,12 +613,25 @@ def printed(numbers):
     return lines
 
 
+def result_of(pattern, records):
+    """What the forward pass gives, with working memory for all that can be live and room for 20 numbers."""
+    return answers(MOST_LIVE, 40960, 40, bytes.fromhex(joined(pattern)), bytes.fromhex(joined("".join(records))))[0]
+
+
+def report_of(pattern, records):
+    (code, *_), numbers = result_of(pattern, records)
+    return f"refused {code}" if code else printed(numbers)
+
+
 def write(folder):
     lines = [lines_of(row) for row in TABLE]
-    assert answers(5, 800, 28, bytes.fromhex(BENCH), bytes.fromhex(BENCH_RECORDS))[0] == ((0, 0, 14, 3, 5), P1)
+    for pattern, records in (BENCH, BENCH_LIST), (BENCH, BENCH_WITH_WAVES), (BENCH_BY_WAVE, BENCH_WAVES):
+        assert result_of(pattern, records) == ((0, 0, 14, 3, 5), P1)
     for caption, pattern, records, stated in EXAMPLES:
-        numbers = answers(MOST_LIVE, 40960, 40, bytes.fromhex(joined(pattern)), bytes.fromhex(joined("".join(records))))[0][1]
-        assert printed(numbers) == stated, f"the rules state otherwise: {caption}"
+        assert report_of(pattern, records) == stated, f"the rules state otherwise: {caption}"
+    for caption, cases in WAVES.items():
+        for pattern, records, stated in cases:
+            assert report_of(pattern, records) == stated, f"worked out otherwise: {caption}"
     codes = {told[0].split(" ")[1] for told in lines if len(told) == 3}
     assert codes == {str(code) for code in range(12)}, "the forward pass gives each refusal 1 to 11, and success"
     table = "".join(row + "\n" for row in TABLE)

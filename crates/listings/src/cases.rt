@@ -66,6 +66,16 @@ pub(crate) fn two_sets(title: &[u8], lent: usize) {
     list(title, &pattern[0..18], lent);
 }
 
+// Sets {0} and {1+}; variable 0's wave is 255, variable 1 has the same, and its amount is below it.
+pub(crate) fn waves(title: &[u8], lent: usize) {
+    let mut pattern = blank();
+    put(&mut pattern, 0, b"\x12\x03\x00\x00\x00\x00\x00\x07\x10\x28");
+    put(&mut pattern, 10, b"\x0a\x00\x00\x00\x00\x00\x00\xff");
+    put(&mut pattern, 18, b"\x0a\x23\x40\x00\x00\x00\x00\x00");
+    put(&mut pattern, 26, b"\x1a\xe3\x00\x00\x00\x00\x00\x00");
+    list(title, &pattern[0..34], lent);
+}
+
 // Two sets of six group variables: the most steps that a pattern can have.
 pub(crate) fn largest(title: &[u8], lent: usize) {
     let mut pattern = blank();
@@ -98,6 +108,24 @@ pub(crate) fn operator(title: &[u8], lent: usize) {
     put(&mut pattern, 0, b"\x12\x02\x00\x00\x00\x00\x00\x07\x10\x20");
     put(&mut pattern, 10, b"\x00\x00\x00\x00\x00\x00\x00\x01");
     put(&mut pattern, 18, b"\x11\x40\x00\x00\x00\x00\x00\x00");
+    list(title, &pattern[0..26], lent);
+}
+
+// Its second condition has attribute 6.
+pub(crate) fn attribute(title: &[u8], lent: usize) {
+    let mut pattern = blank();
+    put(&mut pattern, 0, b"\x12\x02\x00\x00\x00\x00\x00\x07\x10\x20");
+    put(&mut pattern, 10, b"\x0a\x00\x00\x00\x00\x00\x00\x01");
+    put(&mut pattern, 18, b"\x1c\x00\x00\x00\x00\x00\x00\x01");
+    list(title, &pattern[0..26], lent);
+}
+
+// Its second condition has attribute 6 as its second.
+pub(crate) fn second_attribute(title: &[u8], lent: usize) {
+    let mut pattern = blank();
+    put(&mut pattern, 0, b"\x12\x02\x00\x00\x00\x00\x00\x07\x10\x20");
+    put(&mut pattern, 10, b"\x0a\x23\x40\x00\x00\x00\x00\x00");
+    put(&mut pattern, 18, b"\x0a\x23\x80\x00\x00\x00\x00\x00");
     list(title, &pattern[0..26], lent);
 }
 
