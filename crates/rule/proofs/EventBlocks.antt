@@ -47,7 +47,7 @@ byte-at (suc n) i o l m = go (λ k. byte-at n i o k m) (ℕ-discrete i n)
         List·getD-append (events n) (eventBytes n 0 0) 0 (recordBytes * i + o) (omega (arith, length-events n))
         ∙ ih (omega arith)
 
-number-same : (a b : List ℕ) (s t n : ℕ) → ((k : ℕ) → k < n → getD a (s + k) 0 ≡ getD b (t + k) 0)
+pub number-same : (a b : List ℕ) (s t n : ℕ) → ((k : ℕ) → k < n → getD a (s + k) 0 ≡ getD b (t + k) 0)
     → number a s n ≡ number b t n
 unfolding number
 number-same a b s t zero h = refl
@@ -94,7 +94,7 @@ module _ (n i : ℕ) (l : i < n) where
         time = number-from 2 5 (omega arith) k;
         slot = number-from 7 4 (omega arith) k;
         amount = number-from 11 4 (omega arith) k;
-        last = byte-at n i 15 l (omega arith) k;
+        wave = byte-at n i 15 l (omega arith) k;
       }
 
 pub record-is : (n i : ℕ) → n ≤ mostRecords → i < n → recordAt (events n) i ≡ event i
