@@ -47,7 +47,7 @@ byte-at (suc n) i o l m = go (λ k. byte-at n i o k m) (ℕ-discrete i n)
         List·getD-append (events n) (eventBytes n 0 0) 0 (recordBytes * i + o) (omega (arith, length-events n))
         ∙ ih (omega arith)
 
-number-same : (a b : List ℕ) (s t n : ℕ) → ((k : ℕ) → k < n → getD a (s + k) 0 ≡ getD b (t + k) 0)
+pub number-same : (a b : List ℕ) (s t n : ℕ) → ((k : ℕ) → k < n → getD a (s + k) 0 ≡ getD b (t + k) 0)
     → number a s n ≡ number b t n
 unfolding number
 number-same a b s t zero h = refl

@@ -32,3 +32,6 @@ pub mod Demand3
 pub mod EventBlocks
 pub mod OneVariable
 pub mod Pretends
+pub mod Alike
+pub mod WithoutWaves
+pub mod Waves

@@ -1,4 +1,5 @@
--- Blocks that differ in the waves of events, and patterns that ask for none.
+-- Patterns that ask for no wave, and blocks without the waves of their events. No promise of a public call names this
+-- file.
 use mathlib.Core.Path.{_≡_}
 use mathlib.Core.Bool.{Bool, true, false, _&&_}
 use mathlib.Core.List.{List, map}
@@ -10,7 +11,7 @@ use Rattle.records.specs.Records.{recordBytes, recordAt, eventKind}
 use Rattle.patterns.specs.declared.Pattern.{Pattern}
 use Rattle.patterns.specs.Checked.{conditionAt}
 
--- attribute 5 is the wave
+-- the attribute that is the wave
 abbrev pub waveAttribute : ℕ
 waveAttribute = 5
 
@@ -23,7 +24,10 @@ pub record AsksNoWave (p : Pattern) : Type 0 where
 unfoldable pub isWave : List ℕ → ℕ → Bool
 isWave bytes k = eqb (k % recordBytes + 1) recordBytes && eqb (recordAt bytes (k / recordBytes) .kind) eventKind
 
--- the bytes of a block with the waves of its events set to 0
+-- byte k, or 0 where it is the wave of an event
+unfoldable pub withoutWave : List ℕ → ℕ → ℕ
+withoutWave bytes k = elim (isWave bytes k) [ true ↦ 0 | false ↦ getD bytes k 0 ]
+
+-- the bytes of a block with the waves of its events set to 0, and all other bytes as they are
 unfoldable pub withoutWaves : List ℕ → List ℕ
-withoutWaves bytes =
-    map (λ k. elim (isWave bytes k) [ true ↦ 0 | false ↦ getD bytes k 0 ]) (upto 0 (length bytes))
+withoutWaves bytes = map (withoutWave bytes) (upto 0 (length bytes))
