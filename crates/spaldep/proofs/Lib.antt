@@ -4,3 +4,4 @@ pub mod One
 pub mod Demand3
 pub mod ShutOut
 pub mod Exact
+pub mod Waves
