@@ -10,7 +10,6 @@ enum { ATTRIBUTES = 6, AMOUNT = 4 };
 enum { MARK_WINDOW = 1, MARK_END = 2, MARK_GAP = 3 };
 
 struct record {
-  uint64_t time;
   int64_t value[ATTRIBUTES]; /* core, type, class, slot, amount, wave */
 };
 
@@ -47,7 +46,9 @@ struct __attribute__((packed, may_alias)) slot {
   uint16_t binding[BINDINGS]; /* variable 4 bits, record 12 */
 };
 
+/* The block, decoded. Times stand apart: passes go through them where they need no value. */
 static struct record records[RECORDS];
+static uint64_t times[RECORDS];
 static bool is_gap[RECORDS];
 
 static uint64_t refusal(uint64_t code, uint64_t place) { return code << 56 | place << 32; }
@@ -156,7 +157,7 @@ static uint64_t read_block(const uint8_t *bytes, size_t length) {
     const uint8_t *at = bytes + 16 * i;
     struct record *r = &records[i];
     unsigned kind = at[0] >> 6;
-    r->time = read40(at + 2);
+    times[i] = read40(at + 2);
     r->value[0] = at[0] & 63;
     r->value[1] = at[1];
     r->value[2] = classes[at[1]];
@@ -165,8 +166,8 @@ static uint64_t read_block(const uint8_t *bytes, size_t length) {
     r->value[5] = at[15];
     is_gap[i] = kind == 1;
     if (kind > 1 || (kind == 1 && gap_broken(r))) return refusal(6, i);
-    if (i > 0 && r->time <= before) return refusal(7, i);
-    before = r->time;
+    if (i > 0 && times[i] <= before) return refusal(7, i);
+    before = times[i];
   }
   return 0;
 }
@@ -308,7 +309,7 @@ static uint64_t go_forward(const struct pattern *p, size_t count, size_t limit, 
   for (size_t at = 0; at < count; at++) {
     size_t closing = live.count;
     if (!is_gap[at])
-      for (closing = 0; closing < live.count && live.slot[closing].last_time < records[at].time;) closing++;
+      for (closing = 0; closing < live.count && live.slot[closing].last_time < times[at];) closing++;
     close_front(p, &live, closing, is_gap[at] ? MARK_GAP : MARK_WINDOW, report);
     if (report->used > report->room) return refusal(11, 0);
     unsigned can = is_gap[at] ? 0 : settle(p, &records[at]);
@@ -316,7 +317,7 @@ static uint64_t go_forward(const struct pattern *p, size_t count, size_t limit, 
     struct half next = {halves[other], 0};
     for (size_t i = 0; i < live.count; i++)
       if (!extend(p, &live.slot[i], can, at, limit, &next)) return refusal(9, at);
-    struct slot begun = {.last_time = records[at].time + p->duration};
+    struct slot begun = {.last_time = times[at] + p->duration};
     for (unsigned left = can & first; left != 0; left &= left - 1)
       put_bound(&next, limit, &begun, (unsigned)__builtin_ctz(left), at);
     if (next.count > limit) return refusal(10, at);
@@ -400,7 +401,7 @@ static void search(struct start *s, size_t count) {
     if (gap <= at) gap = at + 1;
     while (gap < count && !is_gap[gap]) gap++;
     if (late <= at) late = at + 1;
-    while (late < count && records[late].time - records[at].time <= s->p->duration) late++;
+    while (late < count && times[late] - times[at] <= s->p->duration) late++;
     s->until = gap < late ? gap : late;
     s->mark = s->until == count ? MARK_END : is_gap[s->until] ? MARK_GAP : MARK_WINDOW;
     for (; left != 0; left &= left - 1) {
