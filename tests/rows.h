@@ -1,5 +1,4 @@
-/* The rows of Rule 10.2, and more that the rules settle, of waves above all, run on the library and on the reference.
- */
+/* The rows of Rule 10.2, and more that the rules settle, most of it on waves, run on the library and the reference. */
 #ifndef ROWS_H
 #define ROWS_H
 
