@@ -1,7 +1,8 @@
 /*
  * Families of wide patterns: those of which a block can have more readings than anyone waits for. Patterns have 1 to 12
  * variables in 1 to 3 sets, none of them group variables, all, or some; blocks 10 to 4,096 records; windows from 5
- * records to all. A family's patterns are drawn one after another from a seed of its own, the same on every machine.
+ * records to all. A family's patterns are drawn one after another from a seed of its own: the same in every run of one
+ * build.
  */
 #ifndef FAMILIES_H
 #define FAMILIES_H

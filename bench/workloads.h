@@ -1,4 +1,5 @@
-/* The bench's workloads: a pattern and a block each, the same on every machine; and what packs them. */
+/* The bench's workloads: a pattern and a block each, and what packs them. One build makes the same ones in every run;
+   another compiler may draw their numbers in another order, so times are compared between runs of one machine. */
 #ifndef WORKLOADS_H
 #define WORKLOADS_H
 
