@@ -4,7 +4,6 @@ pub mod Listing
 pub mod All
 pub mod Promise
 pub mod Sinks
-pub mod Words
 pub mod Answers
 pub mod Choices
 pub mod Counts

@@ -15,7 +15,8 @@ use Rattle.numbers.proofs.Memory.{written-behind}
 use Rattle.patterns.specs.declared.Pattern.{Pattern}
 use Rattle.automaton.specs.Filtering.{keep, filter, collect}
 use Rattle.automaton.specs.Automaton.{stateOf, isState, leaves, stepWord, variablesOf}
-use Rattle.automaton.specs.Listing.{stepBytes, wordBytes, stepRoom, listingBytes, allZero}
+use Rattle.automaton.specs.Listing.{stepBytes, stepRoom, listingBytes, allZero}
+use Rattle.numbers.specs.Bytes.{wordBytes}
 use Rattle.automaton.specs.Steps.{stepsFrom, steps, stepOn, stepsAt, Sink, sinkOf, put, puts}
 use Rattle.automaton.proofs.Membership.{length-upto}
 

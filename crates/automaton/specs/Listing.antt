@@ -4,7 +4,7 @@ use mathlib.Core.Path.{_≡_}
 use mathlib.Core.List.{List, [], _∷_, _++_}
 use Prim.Native.Nat.{ℕ, _-_, _*_, _/_, _≤_, _<_}
 use lib.ListN.{length, replicate}
-use Rattle.numbers.specs.Numbers.{field}
+use Rattle.numbers.specs.Bytes.{wordSize, wordBytes}
 use Rattle.records.specs.declared.Answer.{Answer}
 use Rattle.records.specs.Blocks.{refused}
 use Rattle.patterns.specs.Checked.{patternAnswer, patternOf}
@@ -13,20 +13,7 @@ use Rattle.automaton.specs.Automaton.{IsListing}
 
 -- Rule 7.1
 abbrev pub stepBytes : ℕ
-stepBytes = 8
-
--- Rule 7.1: a number of 64 bits as eight bytes, high byte first
-unfoldable pub wordBytes : ℕ → List ℕ
-wordBytes word =
-    field 8 56 word
-    ∷ field 8 48 word
-    ∷ field 8 40 word
-    ∷ field 8 32 word
-    ∷ field 8 24 word
-    ∷ field 8 16 word
-    ∷ field 8 8 word
-    ∷ field 8 0 word
-    ∷ []
+stepBytes = wordSize
 
 -- Rule 7.1: the bytes of a listing
 abbrev pub listingBytes : List ℕ → List ℕ

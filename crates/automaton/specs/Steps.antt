@@ -8,7 +8,8 @@ use Rattle.numbers.specs.Numbers.{upto, written}
 use Rattle.patterns.specs.declared.Pattern.{Pattern}
 use Rattle.automaton.specs.Filtering.{keep, filter, collect}
 use Rattle.automaton.specs.Automaton.{variablesOf, stateOf, isState, leaves, stepWord}
-use Rattle.automaton.specs.Listing.{stepBytes, wordBytes, stepRoom}
+use Rattle.automaton.specs.Listing.{stepBytes, stepRoom}
+use Rattle.numbers.specs.Bytes.{wordBytes}
 
 -- the steps from state number s
 unfoldable pub stepsFrom : Pattern → ℕ → List ℕ

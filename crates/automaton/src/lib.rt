@@ -12,7 +12,7 @@ ghost use Rattle.patterns.specs.Checked.{setOf, conditionAt, InOrder};
 ghost use Rattle.automaton.specs.Filtering.{implies, all};
 ghost use Rattle.automaton.specs.Automaton.{variablesOf, stateOf, opens, loops, leaves, marked, carries, isState};
 ghost use Rattle.automaton.specs.Automaton.{carried, stepWord};
-ghost use Rattle.automaton.specs.Listing.{stepBytes, wordBytes, allZero, ListingPromise};
+ghost use Rattle.automaton.specs.Listing.{allZero, ListingPromise};
 ghost use Rattle.automaton.specs.Steps.{stepOn, stepsFrom, stepsAt, steps, sinkOf, put, puts};
 use patterns::Condition;
 use patterns::Pattern;
@@ -228,36 +228,13 @@ fn step_word(p: Pattern, s: u64, v: usize) -> u64
     s * STATE + (v as u64) * VARIABLE + mark + carried
 }
 
-// Eight bits of a number, above so many lower ones.
-fn byte_of(word: u64, lower: usize) -> u8
-    requires { ⌜ lower < 64 ⌝ }
-    ensures { λ r. ⌜ r ≡ field 8 lower word ⌝ }
-{
-    ((word >> lower) % 256) as u8
-}
-
-// A number into lent memory, from a place on, high byte first.
-fn store_word(memory: &mut [u8], at: usize, word: u64)
-    requires { ⌜ at + stepBytes ≤ length (now memory) ⌝ }
-    ensures { λ r. ⌜ now (memory .exit) ≡ written (now (memory .entry)) at (wordBytes word) ⌝ }
-{
-    memory[at] = byte_of(word, 56);
-    memory[at + 1] = byte_of(word, 48);
-    memory[at + 2] = byte_of(word, 40);
-    memory[at + 3] = byte_of(word, 32);
-    memory[at + 4] = byte_of(word, 24);
-    memory[at + 5] = byte_of(word, 16);
-    memory[at + 6] = byte_of(word, 8);
-    memory[at + 7] = byte_of(word, 0);
-}
-
 // A step is written where there is room for it, and counted.
 fn put_step(listing: &mut [u8], count: usize, word: u64) -> usize
     requires { ⌜ count < 2 ^ 16 ⌝ }
     ensures { λ r. ⌜ sinkOf (now (listing .exit)) r ≡ put (sinkOf (now (listing .entry)) count) word ⌝ }
 {
     if count < listing.len() / STEP_BYTES {
-        store_word(listing, STEP_BYTES * count, word);
+        numbers::store_word(listing, STEP_BYTES * count, word);
         return count + 1;
     }
     count + 1

@@ -6,9 +6,9 @@ use borrow.Author.Tests.{eq-eqb, ne-eqb}
 use lib.ListN.{take}
 use Rattle.records.specs.declared.Answer.{Answer}
 use Rattle.rule.specs.Rule.{Line}
-use Rattle.lines.specs.Put.{Put}
+use Rattle.numbers.specs.Put.{Put}
 use Rattle.lines.specs.Text.{reportText, okText, refusedText, answerText}
-use Rattle.lines.proofs.Put.{put-then}
+use Rattle.numbers.proofs.Put.{put-then}
 
 pub refused-put :
     (before after : List ℕ) (end : ℕ) (a : Answer) (l : List Line) → ¬ (a .code ≡ 0)

@@ -1,5 +1,3 @@
-pub mod Put
-pub mod Digits
 pub mod Lines
 pub mod Answers
 pub mod Unpacked

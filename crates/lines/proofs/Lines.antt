@@ -6,10 +6,11 @@ use native.Mathlib.Numerals.{add-one}
 use native.Mathlib.Omega.{arith}
 use Rattle.numbers.proofs.Cases.{by-order}
 use Rattle.rule.specs.Rule.{Line}
-use Rattle.lines.specs.Put.{Put}
-use Rattle.lines.specs.Text.{lineFeed, decimal, bindingText, readingText, lineText, reportText}
+use Rattle.numbers.specs.Put.{Put}
+use Rattle.numbers.specs.Decimal.{decimal}
+use Rattle.lines.specs.Text.{lineFeed, bindingText, readingText, lineText, reportText}
 use Rattle.lines.specs.Results.{numberAt, bindingOf, bindingsAt, lineAt, behind, placeOf, linesIn}
-use Rattle.lines.proofs.Put.{put-none, put-then}
+use Rattle.numbers.proofs.Put.{put-none, put-then}
 
 pub no-bindings : (text result : List ℕ) (at first : ℕ) → Put text text at (readingText (bindingsAt result first 0)) at
 unfolding readingText bindingsAt

@@ -2,8 +2,9 @@
 -- of ASCII codes.
 use mathlib.Core.Bool.{true, false}
 use mathlib.Core.List.{List, [], _∷_, _++_}
-use Prim.Native.Nat.{ℕ, zero, suc, _+_, _*_, _/_, _%_}
-use lib.Dec.{ltb, eqb}
+use Prim.Native.Nat.{ℕ, _+_, _*_, _/_}
+use lib.Dec.{eqb}
+use Rattle.numbers.specs.Decimal.{decimal}
 use Rattle.records.specs.declared.Answer.{Answer}
 use Rattle.rule.specs.Rule.{Binding, Reading, Line}
 
@@ -18,27 +19,6 @@ space = 32
 -- Serves rule 9.2
 abbrev pub atSign : ℕ
 atSign = 64
-
--- Serves rule 9.2: the code of a digit
-abbrev pub glyph : ℕ → ℕ
-glyph digit = 48 + digit
-
--- Serves rule 9.2: the decimal digits of a number that has at most so many, the most significant first
-unfoldable pub digits : ℕ → ℕ → List ℕ
-digits zero n = []
-digits (suc places) n =
-    elim (ltb n 10) [
-      | true ↦ glyph n ∷ []
-      | false ↦ digits places (n / 10) ++ (glyph (n % 10) ∷ [])
-    ]
-
--- Serves rule 9.2: a number of 64 bits has at most 20 digits
-abbrev pub mostDigits : ℕ
-mostDigits = 20
-
--- Rule 9.2
-unfoldable pub decimal : ℕ → List ℕ
-decimal n = digits mostDigits n
 
 -- Serves rule 9.2: a number behind a sign
 abbrev pub after : ℕ → ℕ → List ℕ

@@ -2,10 +2,10 @@
 ghost use mathlib.Core.Path.{_≡_};
 ghost use Prim.Native.Nat.{_+_, _*_, _^_, _≤_, _<_};
 ghost use lib.ListN.{length, take};
-ghost use Rattle.lines.specs.Text.{mostDigits, decimal, after, bindingText, readingText, lineText, reportText};
+ghost use Rattle.lines.specs.Text.{after, bindingText, readingText, lineText, reportText};
 ghost use Rattle.lines.specs.Text.{okText, refusedText, answerText, numberRoom, lastRoom, textRoom};
 ghost use Rattle.lines.specs.Results.{countAt, bindingOf, bindingsAt, lineAt, behind, placeOf, linesIn};
-ghost use Rattle.lines.specs.Put.{Put};
+ghost use Rattle.numbers.specs.Put.{Put};
 use records::Answer;
 
 // A binding and a line's head are numbers of 16 bits: 4 for the variable or the mark, then 12.
@@ -26,27 +26,13 @@ const LOW_DIGITS: usize = 4;
 
 const MOST_DIGITS: usize = 20;
 
-// A number in decimal digits, of which it has at most so many.
-fn put_number(text: &mut [u8], at: usize, n: u64, places: usize) -> usize
-    requires { ⌜ (1 ≤ places) × (places ≤ mostDigits) × (n < 10 ^ places) × (at + places ≤ length (now text)) ⌝ }
-    ensures { λ r. ⌜ Put (now (text .entry)) (now (text .exit)) at (decimal n) r × (r ≤ at + places) ⌝ }
-{
-    if n < 10 {
-        text[at] = b'0' + n as u8;
-        return at + 1;
-    }
-    let end = put_number(text, at, n / 10, places - 1);
-    text[end] = b'0' + (n % 10) as u8;
-    end + 1
-}
-
 // A number after a sign.
 fn put_after(text: &mut [u8], at: usize, sign: u8, n: u64, places: usize) -> usize
-    requires { ⌜ (1 ≤ places) × (places ≤ mostDigits) × (n < 10 ^ places) × (at + 1 + places ≤ length (now text)) ⌝ }
+    requires { ⌜ (1 ≤ places) × (n < 10 ^ places) × (at + 1 + places ≤ length (now text)) ⌝ }
     ensures { λ r. ⌜ Put (now (text .entry)) (now (text .exit)) at (after sign n) r × (r ≤ at + 1 + places) ⌝ }
 {
     text[at] = sign;
-    put_number(text, at + 1, n, places)
+    numbers::put_number(text, at + 1, n, places)
 }
 
 // variable@record, after a space.
@@ -90,7 +76,7 @@ fn put_line(result: &[u8], at: usize, text: &mut [u8], from: usize) -> usize
 {
     let head = numbers::number2(result, 2 * at);
     let count = (head % COUNT_NUMBERS) as usize;
-    let middle = put_number(text, from, (head / LOW_NUMBERS) as u64, HIGH_DIGITS);
+    let middle = numbers::put_number(text, from, (head / LOW_NUMBERS) as u64, HIGH_DIGITS);
     let end = put_bindings(result, at + 1, count, text, middle);
     text[end] = b'\n';
     end + 1
@@ -122,25 +108,12 @@ fn put_lines(result: &[u8], count: usize, text: &mut [u8]) -> usize
     end
 }
 
-// The bytes of a word.
-fn put_word(text: &mut [u8], at: usize, word: &[u8]) -> usize
-    requires { ⌜ at + length (now word) ≤ length (now text) ⌝ }
-    ensures { λ r. ⌜ Put (now (text .entry)) (now (text .exit)) at (now (word .entry)) r ⌝ }
-{
-    let mut i = 0;
-    while i < word.len() {
-        text[at + i] = word[i];
-        i += 1;
-    }
-    at + i
-}
-
 // The last line of a report.
 fn put_ok(text: &mut [u8], at: usize, answer: Answer) -> usize
     requires { ⌜ at + lastRoom ≤ length (now text) ⌝ }
     ensures { λ r. ⌜ Put (now (text .entry)) (now (text .exit)) at (okText answer) r × (r ≤ at + lastRoom) ⌝ }
 {
-    let word = put_word(text, at, b"ok");
+    let word = numbers::put_word(text, at, b"ok");
     let readings = put_after(text, word, b' ', answer.readings, MOST_DIGITS);
     let used = put_after(text, readings, b' ', answer.used, MOST_DIGITS);
     let peak = put_after(text, used, b' ', answer.peak as u64, MOST_DIGITS);
@@ -153,7 +126,7 @@ fn put_refused(text: &mut [u8], answer: Answer) -> usize
     requires { ⌜ lastRoom ≤ length (now text) ⌝ }
     ensures { λ r. ⌜ Put (now (text .entry)) (now (text .exit)) 0 (refusedText answer) r × (r ≤ lastRoom) ⌝ }
 {
-    let word = put_word(text, 0, b"refused");
+    let word = numbers::put_word(text, 0, b"refused");
     let code = put_after(text, word, b' ', answer.code as u64, MOST_DIGITS);
     let place = put_after(text, code, b' ', answer.place as u64, MOST_DIGITS);
     text[place] = b'\n';

@@ -10,3 +10,6 @@ pub mod Lowest
 pub mod Memory
 pub mod Sum
 pub mod Subsets
+pub mod Words
+pub mod Decimal
+pub mod Put

@@ -1,10 +1,13 @@
-// Bytes read as numbers, and the bits of numbers.
+// Bytes read as numbers, the bits of numbers, and numbers and words put into lent memory.
 ghost use mathlib.Core.Path.{_≡_};
 ghost use Prim.Native.Nat.{ℕ, _+_, _-_, _*_, _^_, _<_, _≤_};
 ghost use lib.ListN.{length, getD, replicate};
 ghost use lib.Bits.{bitOr};
-ghost use Rattle.numbers.specs.Numbers.{number, oneIf};
+ghost use Rattle.numbers.specs.Numbers.{number, field, written, oneIf};
 ghost use Rattle.numbers.specs.Bits.{bit, within, disjoint, IsLowestBit};
+ghost use Rattle.numbers.specs.Bytes.{wordSize, wordBytes};
+ghost use Rattle.numbers.specs.Decimal.{decimal};
+ghost use Rattle.numbers.specs.Put.{Put};
 
 // The byte at a place: it is below 256, which an index alone does not say.
 pub fn byte(bytes: &[u8], at: usize) -> u8
@@ -135,4 +138,54 @@ pub fn clear(bytes: &mut [u8])
         bytes[i] = 0;
         i += 1;
     }
+}
+
+// Eight bits of a number, above so many lower ones.
+fn byte_of(word: u64, lower: usize) -> u8
+    requires { ⌜ lower < 64 ⌝ }
+    ensures { λ r. ⌜ r ≡ field 8 lower word ⌝ }
+{
+    ((word >> lower) % 256) as u8
+}
+
+// A number into lent memory, from a place on, high byte first.
+pub fn store_word(memory: &mut [u8], at: usize, word: u64)
+    requires { ⌜ at + wordSize ≤ length (now memory) ⌝ }
+    ensures { λ r. ⌜ now (memory .exit) ≡ written (now (memory .entry)) at (wordBytes word) ⌝ }
+{
+    memory[at] = byte_of(word, 56);
+    memory[at + 1] = byte_of(word, 48);
+    memory[at + 2] = byte_of(word, 40);
+    memory[at + 3] = byte_of(word, 32);
+    memory[at + 4] = byte_of(word, 24);
+    memory[at + 5] = byte_of(word, 16);
+    memory[at + 6] = byte_of(word, 8);
+    memory[at + 7] = byte_of(word, 0);
+}
+
+// A number in decimal digits, of which it has at most so many.
+pub fn put_number(text: &mut [u8], at: usize, n: u64, places: usize) -> usize
+    requires { ⌜ (1 ≤ places) × (n < 10 ^ places) × (at + places ≤ length (now text)) ⌝ }
+    ensures { λ r. ⌜ Put (now (text .entry)) (now (text .exit)) at (decimal n) r × (r ≤ at + places) ⌝ }
+{
+    if n < 10 {
+        text[at] = b'0' + n as u8;
+        return at + 1;
+    }
+    let end = put_number(text, at, n / 10, places - 1);
+    text[end] = b'0' + (n % 10) as u8;
+    end + 1
+}
+
+// The bytes of a word.
+pub fn put_word(text: &mut [u8], at: usize, word: &[u8]) -> usize
+    requires { ⌜ at + length (now word) ≤ length (now text) ⌝ }
+    ensures { λ r. ⌜ Put (now (text .entry)) (now (text .exit)) at (now (word .entry)) r ⌝ }
+{
+    let mut i = 0;
+    while i < word.len() {
+        text[at + i] = word[i];
+        i += 1;
+    }
+    at + i
 }

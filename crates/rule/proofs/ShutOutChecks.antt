@@ -11,7 +11,8 @@ use Rattle.records.specs.Blocks.{misfit, blockAnswer}
 use Rattle.patterns.specs.declared.Checked.{Checked}
 use Rattle.patterns.specs.Checked.{patternAnswer}
 use Rattle.automaton.specs.Filtering.{collect}
-use Rattle.automaton.specs.Listing.{wordBytes, stepsListed, ListingPromise}
+use Rattle.numbers.specs.Bytes.{wordBytes}
+use Rattle.automaton.specs.Listing.{stepsListed, ListingPromise}
 use Rattle.automaton.proofs.Promise.{listing-promise-unique}
 use Rattle.rule.specs.Rule.{Line, Report, pack}
 use Rattle.rule.specs.Promises.{Measure, mostCounted}

@@ -3,7 +3,7 @@ use mathlib.Core.Path.{_∙_}
 use native.Mathlib.Omega.{arith}
 use lib.ListN.{length-set}
 use borrow.Author.Needs.{needs}
-use Rattle.lines.proofs.Put.{put-byte, put-then}
+use Rattle.numbers.proofs.Put.{put-byte, put-then}
 use Rattle.lines.proofs.put_after.Statement.{statement}
 use Rattle.lines.proofs.put_after.Tie as tie
 

@@ -2,7 +2,7 @@
 use native.Mathlib.Omega.{arith}
 use borrow.Author.Needs.{needs}
 use Rattle.lines.specs.Text.{bindingText}
-use Rattle.lines.proofs.Put.{put-then}
+use Rattle.numbers.proofs.Put.{put-then}
 use Rattle.lines.proofs.put_binding.Statement.{statement}
 use Rattle.lines.proofs.put_binding.Tie as tie
 

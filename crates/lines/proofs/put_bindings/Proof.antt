@@ -5,7 +5,7 @@ use native.Mathlib.Omega.{arith}
 use lib.ListN.{length}
 use borrow.Author.Needs.{needs}
 use Rattle.lines.proofs.Lines.{no-bindings, one-binding-more, all-bindings}
-use Rattle.lines.specs.Put.{Put}
+use Rattle.numbers.specs.Put.{Put}
 use Rattle.lines.specs.Text.{readingText}
 use Rattle.lines.specs.Results.{bindingsAt}
 use Rattle.lines.proofs.put_bindings.Statement.{statement}

@@ -5,7 +5,7 @@ use Prim.Native.Nat.{_*_, _-_, _≤_}
 use native.Mathlib.Omega.{arith}
 use lib.ListN.{length}
 use borrow.Author.Needs.{needs}
-use Rattle.lines.specs.Put.{Put}
+use Rattle.numbers.specs.Put.{Put}
 use Rattle.lines.specs.Text.{reportText}
 use Rattle.lines.specs.Results.{placeOf, linesIn}
 use Rattle.lines.proofs.Lines.{no-lines, one-line-more, all-lines, place-first, place-next, line-fits}

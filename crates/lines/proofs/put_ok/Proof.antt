@@ -4,7 +4,7 @@ use native.Mathlib.Omega.{arith}
 use lib.ListN.{length-set}
 use borrow.Author.Needs.{needs}
 use Rattle.lines.specs.Text.{okText}
-use Rattle.lines.proofs.Put.{put-byte, put-then}
+use Rattle.numbers.proofs.Put.{put-byte, put-then}
 use Rattle.lines.proofs.put_ok.Statement.{statement}
 use Rattle.lines.proofs.put_ok.Tie as tie
 

@@ -6,7 +6,7 @@ use native.Mathlib.Numerals.{add-one}
 use native.Mathlib.Omega.{arith}
 use lib.ListN.{length, take, getD, set, length-append, length-set}
 use lib.Seq.{take-suc, take-suc-set, take-all}
-use Rattle.lines.specs.Put.{Put}
+use Rattle.numbers.specs.Put.{Put}
 
 pub put-none : (text : List ℕ) (at : ℕ) → Put text text at [] at
 put-none text at = record { wrote = sym (append-nil (take at text)); ends = omega arith; kept = refl }

@@ -1,14 +1,14 @@
--- `automaton::store_word` meets its contract: eight stores, high byte first. Assumes nothing.
+-- `numbers::store_word` meets its contract: eight stores, high byte first. Assumes nothing.
 use mathlib.Core.Path.{_≡_, _∙_, ap}
 use mathlib.Core.List.{[], _∷_}
 use native.Mathlib.Omega.{arith}
 use borrow.Author.Needs.{needs}
 use lib.ListN.{length-set}
 use Rattle.numbers.specs.Numbers.{written}
-use Rattle.automaton.proofs.Words.{eight-stores}
-use Rattle.automaton.specs.Listing.{wordBytes}
-use Rattle.automaton.proofs.store_word.Statement.{statement}
-use Rattle.automaton.proofs.store_word.Tie as tie
+use Rattle.numbers.proofs.Words.{eight-stores}
+use Rattle.numbers.specs.Bytes.{wordBytes}
+use Rattle.numbers.proofs.store_word.Statement.{statement}
+use Rattle.numbers.proofs.store_word.Tie as tie
 
 byte-of-requires : tie.Need-byte-of-requires
 byte-of-requires c κs = search needs

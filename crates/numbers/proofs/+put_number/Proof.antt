@@ -1,16 +1,16 @@
--- `lines::put_number` meets its contract: the digits of a tenth of the number, and the last digit. The measure is the
+-- `numbers::put_number` meets its contract: the digits of a tenth of the number, and the last digit. The measure is the
 -- room for digits. Assumes nothing.
 use Prim.Native.Nat.{ℕ, _<_}
 use native.Mathlib.Omega.{arith}
 use borrow.Author.Needs.{needs}
 use borrow.Fn.Kinds.{In}
 use borrow.Fn.PlainCycle.{Measures, is, falls, and}
-use Rattle.lines.proofs.Digits.{put-digit, put-last-digit, places-left, fits-digits}
-use Rattle.lines.proofs.put_number.Reads as put-number
-use Rattle.lines.proofs.put_number.Kinds as put-number-kinds
-use Rattle.lines.proofs.+put_number.{statement}
-use Rattle.lines.proofs.+put_number.Tie.{close}
-use Rattle.lines.proofs.+put_number.Lts-put_number as put-number-lts
+use Rattle.numbers.proofs.Decimal.{put-digit, put-last-digit, places-left}
+use Rattle.numbers.proofs.put_number.Reads as put-number
+use Rattle.numbers.proofs.put_number.Kinds as put-number-kinds
+use Rattle.numbers.proofs.+put_number.{statement}
+use Rattle.numbers.proofs.+put_number.Tie.{close}
+use Rattle.numbers.proofs.+put_number.Lts-put_number as put-number-lts
 
 abbrev μ-put-number : Measures 1 put-number-kinds.ps ℕ
 μ-put-number κs a = a .1 .1 .1 .0
@@ -79,8 +79,8 @@ put-number-put-number-requires : (t : ℕ) → put-number-lts.Need-put-number-re
 put-number-put-number-requires t c κs =
     let s = c .before .before .before in
     let a = s .args in
-    let left = places-left (a .places) (a .n) (s .pre .1 .0) (c .before .if1 .left) (s .pre .1 .2) in
-    (omega arith, (left .0, omega arith, left .1, omega arith))
+    let left = places-left (a .places) (a .n) (s .pre .1 .0) (c .before .if1 .left) (s .pre .1 .1) in
+    (omega arith, (left .0, left .1, omega arith))
 
 put-number-cast-text-2 : (t : ℕ) → put-number-lts.Need-cast-text-2 (
   put-number-below t,
@@ -120,7 +120,7 @@ put-number-returns-2 t c =
     let s = c .before .before .before .before .before .before in
     let a = s .args in
     let e = c .before .before .put-number in
-    (put-last-digit (a .text .now) (e .last .0) (a .at) (e .result) (a .n) (c .before .before .before .before .if1 .left) (fits-digits (a .places) (a .n) (s .pre .1 .2) (s .pre .1 .1)) (e .ensures .0) (omega (arith, e .ensures .0 .kept)), omega arith)
+    (put-last-digit (a .text .now) (e .last .0) (a .at) (e .result) (a .n) (c .before .before .before .before .if1 .left) (e .ensures .0) (omega (arith, e .ensures .0 .kept)), omega arith)
 
 pub +put-number-spec : {M : Type 1} → statement M
 +put-number-spec = close μ-put-number λ t. put-number-lts.spec (

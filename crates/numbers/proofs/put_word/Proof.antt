@@ -1,13 +1,13 @@
--- `lines::put_word` meets its contract. The loop's invariant: the first i bytes have been put. Assumes nothing.
+-- `numbers::put_word` meets its contract. The loop's invariant: the first i bytes have been put. Assumes nothing.
 use Prim.Native.Nat.{_+_, _-_, _≤_}
 use native.Mathlib.Nat.{add-zero}
 use native.Mathlib.Omega.{arith}
 use lib.ListN.{length-set, length, take}
 use borrow.Author.Needs.{needs}
-use Rattle.lines.specs.Put.{Put}
-use Rattle.lines.proofs.Put.{put-none, put-word-turn, put-word-end}
-use Rattle.lines.proofs.put_word.Statement.{statement}
-use Rattle.lines.proofs.put_word.Tie as tie
+use Rattle.numbers.specs.Put.{Put}
+use Rattle.numbers.proofs.Put.{put-none, put-word-turn, put-word-end}
+use Rattle.numbers.proofs.put_word.Statement.{statement}
+use Rattle.numbers.proofs.put_word.Tie as tie
 
 abbrev Inv-loop : tie.InvT-loop
 Inv-loop text₀ at word i₀ text i = (i ≤ length word) × (at + length word ≤ length text) × Put text₀ text at (take i word) (at + i)

@@ -1,0 +1,299 @@
+// A text read line by line: a draft holds what the lines so far have told.
+ghost use mathlib.Core.Path.{_≡_};
+ghost use mathlib.Core.List.{List, []};
+ghost use Prim.Native.Nat.{_+_, min};
+ghost use Rattle.form.specs.Items.{Item, start, Valid};
+ghost use Rattle.drafts.specs.Drafts.{Small, DraftOf, LineRead};
+
+const MOST_VARIABLES: usize = 12;
+
+const MOST_CONDITIONS: usize = 32;
+
+// Counts stop one above what a pattern may have.
+pub const MANY_VARIABLES: u8 = 13;
+
+pub const MANY_CONDITIONS: u8 = 33;
+
+// How far a text is: no line, set lines, when lines, the within line.
+const IN_SETS: u8 = 1;
+
+const IN_WHENS: u8 = 2;
+
+pub const FINISHED: u8 = 3;
+
+// Of each letter its place among the names, counted from 1, or 0; the bytes of the variables and the 64 bits of the
+// conditions as far as a pattern has room for them; counts of names, set lines and when lines; how far the text is;
+// whether its last line was bad; the duration.
+pub struct Draft {
+    pub places: [u8; 26],
+    pub variables: [u8; MOST_VARIABLES],
+    pub conditions: [u64; MOST_CONDITIONS],
+    pub n: u8,
+    pub set: u8,
+    pub c: u8,
+    pub phase: u8,
+    pub bad: bool,
+    pub duration: u64,
+}
+
+// Nothing read yet.
+pub fn blank() -> Draft
+    ensures { λ r. ⌜ Small r × DraftOf [] r ⌝ }
+{
+    Draft {
+        places: [0; 26],
+        variables: [0; MOST_VARIABLES],
+        conditions: [0; MOST_CONDITIONS],
+        n: 0,
+        set: 0,
+        c: 0,
+        phase: 0,
+        bad: false,
+        duration: 0,
+    }
+}
+
+// Whether a line begins with a word.
+fn begins(line: &[u8], word: &[u8]) -> bool {
+    if line.len() < word.len() {
+        return false;
+    }
+    let mut i = 0;
+    while i < word.len() {
+        if line[i] != word[i] {
+            return false;
+        }
+        i += 1;
+    }
+    true
+}
+
+// One more, up to the most.
+fn next(x: u8, most: u8) -> u8
+    ensures { λ r. ⌜ r ≡ min (x + 1) most ⌝ }
+{
+    if x < most {
+        return x + 1;
+    }
+    most
+}
+
+// The line is bad.
+fn refuse(d: Draft) -> Draft {
+    let mut q = d;
+    q.bad = true;
+    q
+}
+
+// A name and its group flag behind one space; size 0 where there is none.
+struct Piece {
+    size: usize,
+    name: u8,
+    group: bool,
+}
+
+// The name at a place of a set line.
+fn member_at(line: &[u8], at: usize) -> Piece {
+    let none = Piece {
+        size: 0,
+        name: 0,
+        group: false,
+    };
+    if line.len() < 2 {
+        return none;
+    }
+    if line.len() - 2 < at {
+        return none;
+    }
+    if line[at] != b' ' {
+        return none;
+    }
+    let name = numbers::byte(line, at + 1);
+    if name < b'a' {
+        return none;
+    }
+    if b'z' < name {
+        return none;
+    }
+    if at + 2 < line.len() {
+        if line[at + 2] == b'+' {
+            return Piece {
+                size: 3,
+                name: name,
+                group: true,
+            };
+        }
+    }
+    Piece {
+        size: 2,
+        name: name,
+        group: false,
+    }
+}
+
+// The byte of the next variable, where a pattern has room for it.
+fn with_variable(d: Draft, group: bool) -> Draft {
+    let at = d.n as usize;
+    if MOST_VARIABLES <= at {
+        return d;
+    }
+    let mut q = d;
+    q.variables[at] = d.set * 16 + numbers::one_if(group) as u8 * 8;
+    q
+}
+
+// One name more in the last set line.
+fn with_member(d: Draft, name: u8, group: bool) -> Draft {
+    let at = (name - words::FIRST_LETTER) as usize;
+    if d.places[at] != 0 {
+        return refuse(d);
+    }
+    let mut q = with_variable(d, group);
+    let more = next(d.n, MANY_VARIABLES);
+    q.places[at] = more;
+    q.n = more;
+    q
+}
+
+// A set line: its names, from behind the first word on.
+fn read_set(line: &[u8], d: Draft) -> Draft {
+    if IN_SETS < d.phase {
+        return refuse(d);
+    }
+    if line.len() == 0 {
+        return refuse(d);
+    }
+    let mut q = d;
+    q.phase = IN_SETS;
+    q.set = next(d.set, MANY_VARIABLES);
+    let mut at = 0;
+    while at < line.len() {
+        let piece = member_at(line, at);
+        if piece.size == 0 {
+            return refuse(q);
+        }
+        q = with_member(q, piece.name, piece.group);
+        if q.bad {
+            return q;
+        }
+        at += piece.size;
+    }
+    q
+}
+
+// The first space from a place on, or the end.
+fn word_end(line: &[u8], from: usize) -> usize {
+    let mut at = from;
+    while at < line.len() {
+        if line[at] == b' ' {
+            return at;
+        }
+        at += 1;
+    }
+    at
+}
+
+// Whether when lines and the within line may follow.
+fn is_named(phase: u8) -> bool {
+    if phase < IN_SETS {
+        return false;
+    }
+    phase <= IN_WHENS
+}
+
+// One condition more, where a pattern has room for it.
+fn with_condition(d: Draft, word: u64) -> Draft {
+    let mut q = d;
+    q.phase = IN_WHENS;
+    q.c = next(d.c, MANY_CONDITIONS);
+    let at = d.c as usize;
+    if MOST_CONDITIONS <= at {
+        return q;
+    }
+    q.conditions[at] = word;
+    q
+}
+
+// The 64 bits of a condition with a constant.
+fn constant_bits(left: words::Sided, operator: u8, constant: u32) -> u64 {
+    (left.place - 1) as u64 * 1152921504606846976
+        + left.attribute as u64 * 144115188075855872
+        + operator as u64 * 18014398509481984
+        + constant as u64
+}
+
+// The 64 bits of a condition between two attributes.
+fn join_bits(left: words::Sided, operator: u8, right: words::Sided) -> u64 {
+    (left.place - 1) as u64 * 1152921504606846976
+        + left.attribute as u64 * 144115188075855872
+        + operator as u64 * 18014398509481984
+        + 9007199254740992
+        + (right.place - 1) as u64 * 562949953421312
+        + right.attribute as u64 * 70368744177664
+}
+
+// A condition, from behind the first word and its space on.
+fn read_when(line: &[u8], d: Draft) -> Draft {
+    if !is_named(d.phase) {
+        return refuse(d);
+    }
+    let first = word_end(line, 0);
+    if first == line.len() {
+        return refuse(d);
+    }
+    let second = word_end(line, first + 1);
+    if second == line.len() {
+        return refuse(d);
+    }
+    let places = d.places;
+    let left = words::side(&places, &line[..first]);
+    if !left.ok {
+        return refuse(d);
+    }
+    let operator = words::operator_of(&line[first + 1..second]);
+    if operator == words::OPERATORS {
+        return refuse(d);
+    }
+    let right = words::side(&places, &line[second + 1..]);
+    if right.ok {
+        return with_condition(d, join_bits(left, operator, right));
+    }
+    let constant = words::constant(left.attribute, &line[second + 1..]);
+    if !constant.ok {
+        return refuse(d);
+    }
+    with_condition(d, constant_bits(left, operator, constant.bits))
+}
+
+// The duration, from behind the first word and its space on.
+fn read_within(line: &[u8], d: Draft) -> Draft {
+    if !is_named(d.phase) {
+        return refuse(d);
+    }
+    let n = words::natural(line);
+    if !n.ok {
+        return refuse(d);
+    }
+    let mut q = d;
+    q.phase = FINISHED;
+    q.duration = n.value;
+    q
+}
+
+// One line more, its line feed not among its bytes.
+pub fn read_line(line: &[u8], d: Draft) -> Draft
+    requires { ⌜ Small d ⌝ }
+    ensures { λ r. ⌜ Small r
+        × ((l : List Item) → Valid start l → DraftOf l d → LineRead l (now (line .entry)) r) ⌝ }
+{
+    if begins(line, b"set") {
+        return read_set(&line[3..], d);
+    }
+    if begins(line, b"when ") {
+        return read_when(&line[5..], d);
+    }
+    if begins(line, b"within ") {
+        return read_within(&line[7..], d);
+    }
+    refuse(d)
+}
