@@ -10,7 +10,8 @@ use Rattle.numbers.specs.Numbers.{oneIf}
 use Rattle.numbers.specs.Bytes.{wordBytes}
 use Rattle.patterns.specs.declared.Condition.{Condition}
 use Rattle.patterns.specs.Patterns.{mostVariables, mostConditions}
-use Rattle.form.specs.Form.{Member, Side, Operand, constant, other, When, Making, names}
+use Rattle.form.specs.Form.{Member, Side, Operand, When, Making, names}
+use Rattle.form.specs.Form.Operand.{constant, other}
 
 -- Rule 11.5: the place of a name among the names, counted from 1; 0 where it is not one of them
 unfoldable pub placeOf : ℕ → List ℕ → ℕ

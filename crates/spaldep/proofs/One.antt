@@ -4,9 +4,10 @@ use mathlib.Core.Path.{_≡_, _∙_, sym, ap}
 use mathlib.Core.List.{List}
 use Prim.Native.Nat.{ℕ}
 use Rattle.automaton.proofs.Promise.{listing-promise-unique}
+use Rattle.form.proofs.OneAnswer.{read-promise-one, write-promise-one}
 use Rattle.rule.proofs.Calls.{start-by-start-one, forward-one}
 use Rattle.spaldep.specs.Packed.{packedAnswer}
-use Rattle.spaldep.specs.Host.{StartByStartHost, ForwardHost, ListingHost}
+use Rattle.spaldep.specs.Host.{StartByStartHost, ForwardHost, ListingHost, ReadHost, WriteHost}
 
 pub listing-host-one :
     (pattern : List ℕ) (lent word other : ℕ) (listing after : List ℕ)
@@ -15,6 +16,24 @@ pub listing-host-one :
     → (word ≡ other) × (listing ≡ after)
 listing-host-one pattern lent word other listing after h g =
     let q = listing-promise-unique pattern lent (h .answer) (g .answer) listing after (h .listed) (g .listed) in
+    (h .packed ∙ ap packedAnswer (q .0) ∙ sym (g .packed), q .1)
+
+pub read-host-one :
+    (text : List ℕ) (lent word other : ℕ) (pattern after : List ℕ)
+    → ReadHost text lent word pattern
+    → ReadHost text lent other after
+    → (word ≡ other) × (pattern ≡ after)
+read-host-one text lent word other pattern after h g =
+    let q = read-promise-one text lent (h .answer) (g .answer) pattern after (h .read) (g .read) in
+    (h .packed ∙ ap packedAnswer (q .0) ∙ sym (g .packed), q .1)
+
+pub write-host-one :
+    (pattern : List ℕ) (lent word other : ℕ) (text after : List ℕ)
+    → WriteHost pattern lent word text
+    → WriteHost pattern lent other after
+    → (word ≡ other) × (text ≡ after)
+write-host-one pattern lent word other text after h g =
+    let q = write-promise-one pattern lent (h .answer) (g .answer) text after (h .wrote) (g .wrote) in
     (h .packed ∙ ap packedAnswer (q .0) ∙ sym (g .packed), q .1)
 
 module _ (pattern block : List ℕ) where

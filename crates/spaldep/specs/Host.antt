@@ -1,4 +1,4 @@
--- What the C calls of the passes promise: the packed answer and every byte of the host's memory.
+-- What the C calls that write promise: the packed answer and every byte of the host's memory.
 use mathlib.Core.Path.{_≡_}
 use mathlib.Core.Bool.{Bool, true, false}
 use mathlib.Core.List.{List}
@@ -7,6 +7,7 @@ use Prim.Native.Nat.{ℕ, _%_, _≤_}
 use Rattle.records.specs.declared.Answer.{Answer}
 use Rattle.records.specs.Blocks.{refused}
 use Rattle.automaton.specs.Listing.{ListingPromise}
+use Rattle.form.specs.Promises.{ReadPromise, WritePromise}
 use Rattle.rule.specs.Calls.{mostResultBytes, inputAnswer, zeros, StartByStartCall, ForwardCall}
 use Rattle.spaldep.specs.Packed.{packedAnswer}
 
@@ -52,4 +53,16 @@ pub data ForwardHost (pattern block : List ℕ) (limit lentWork lentResult word 
 pub record ListingHost (pattern : List ℕ) (lent word : ℕ) (listing : List ℕ) : Type 0 where
   pub answer : Answer
   pub listed : ListingPromise pattern lent answer listing
+  pub packed : word ≡ packedAnswer answer
+
+-- Rule 7.8: spaldep_read_text, the packed answer and the slice of the pattern after it
+pub record ReadHost (text : List ℕ) (lent word : ℕ) (pattern : List ℕ) : Type 0 where
+  pub answer : Answer
+  pub read : ReadPromise text lent answer pattern
+  pub packed : word ≡ packedAnswer answer
+
+-- Rule 7.8: spaldep_write_text, the packed answer and the slice of the text after it
+pub record WriteHost (pattern : List ℕ) (lent word : ℕ) (text : List ℕ) : Type 0 where
+  pub answer : Answer
+  pub wrote : WritePromise pattern lent answer text
   pub packed : word ≡ packedAnswer answer

@@ -8,6 +8,7 @@ ghost use Rattle.patterns.specs.Checked.{patternAnswer};
 ghost use Rattle.rule.specs.Calls.{inputAnswer};
 ghost use Rattle.spaldep.specs.Packed.{placeOrUsed, packedAnswer};
 ghost use Rattle.spaldep.specs.Host.{Fitness, unfitAnswer, StartByStartHost, ForwardHost, ListingHost};
+ghost use Rattle.spaldep.specs.Host.{ReadHost, WriteHost};
 use records::Answer;
 
 // A number that stops at the largest one.
@@ -124,4 +125,18 @@ pub extern "C" fn spaldep_start_by_start(pattern: &[u8], block: &[u8], result: &
         return pack(unfit_answer(pattern, block));
     }
     pack(starts::start_by_start(pattern, block, result))
+}
+
+#[no_mangle]
+pub extern "C" fn spaldep_read_text(text: &[u8], pattern: &mut [u8]) -> u64
+    ensures { λ r. ⌜ ReadHost (now (text .entry)) (length (now (pattern .entry))) r (now (pattern .exit)) ⌝ }
+{
+    pack(text::read_text(text, pattern))
+}
+
+#[no_mangle]
+pub extern "C" fn spaldep_write_text(pattern: &[u8], text: &mut [u8]) -> u64
+    ensures { λ r. ⌜ WriteHost (now (pattern .entry)) (length (now (text .entry))) r (now (text .exit)) ⌝ }
+{
+    pack(text::write_text(pattern, text))
 }

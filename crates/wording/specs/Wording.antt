@@ -10,7 +10,8 @@ use Rattle.patterns.specs.declared.Pattern.{Pattern}
 use Rattle.patterns.specs.declared.Condition.{Condition}
 use Rattle.patterns.specs.Checked.{setOf, isGroup, conditionAt}
 use Rattle.patterns.specs.Comparison.{constantValue}
-use Rattle.form.specs.Form.{Member, Side, Operand, constant, other, When, Making, firstLetter}
+use Rattle.form.specs.Form.{Member, Side, Operand, When, Making, firstLetter}
+use Rattle.form.specs.Form.Operand.{constant, other}
 
 -- variable v by its letter
 abbrev pub letterOf : ℕ → ℕ
