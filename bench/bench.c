@@ -56,6 +56,13 @@ static uint64_t library_check_block(const struct workload *w, uint8_t *result) {
   return spaldep_check_block(w->block, w->block_len);
 }
 
+/* The text of the pattern, and the pattern of that text. */
+static uint64_t library_texts(const struct workload *w, uint8_t *result) {
+  static uint8_t text[SPALDEP_TEXT_BYTES_MAX];
+  uint64_t answer = spaldep_write_text(w->pattern, w->pattern_len, text, sizeof text);
+  return spaldep_read_text(text, spaldep_used(answer), result, SPALDEP_RESULT_BYTES_MAX);
+}
+
 /* ---- times ---- */
 
 /* Seconds a call, over `calls` calls. */
@@ -146,9 +153,11 @@ static bool print_stack(const struct workload *w) {
   size_t without = painted(NULL, w), forward = painted(library_forward, w) - without;
   size_t starts = painted(library_starts, w) - without, listing = painted(library_listing, w) - without;
   size_t checks = larger(painted(library_check_pattern, w), painted(library_check_block, w)) - without;
-  printf("%-24s %10zu %10zu %10zu %10zu %10zu %10zu\n", w->name, forward, starts, listing, checks,
+  size_t texts = painted(library_texts, w) - without;
+  printf("%-24s %10zu %10zu %10zu %10zu %10zu %10zu %10zu\n", w->name, forward, starts, listing, checks, texts,
          painted(plain_forward, w) - without, painted(plain_starts, w) - without);
-  if (larger(forward, larger(listing, checks)) <= SPALDEP_STACK_FORWARD && starts <= SPALDEP_STACK_START_BY_START)
+  if (larger(larger(forward, texts), larger(listing, checks)) <= SPALDEP_STACK_FORWARD &&
+      starts <= SPALDEP_STACK_START_BY_START)
     return true;
   printf("%-24s FAILED: include/spaldep.h says %u, and %u for start-by-start\n", w->name, SPALDEP_STACK_FORWARD,
          SPALDEP_STACK_START_BY_START);
@@ -160,8 +169,8 @@ static bool print_stacks(void) {
   bool all = true;
   make_workload(0, BY_CLASS, &w);
   painted(library_forward, &w); /* the first call of a function of the C library takes stack to find it */
-  printf("%-24s %10s %10s %10s %10s %10s %10s\n", "stack of a call, bytes", "forward", "starts", "listing", "checks",
-         "C forward", "C starts");
+  printf("%-24s %10s %10s %10s %10s %10s %10s %10s\n", "stack of a call, bytes", "forward", "starts", "listing",
+         "checks", "texts", "C forward", "C starts");
   for (unsigned i = 0; i <= WORKLOADS; i++) {
     make_workload(i, BY_CLASS, &w);
     all = print_stack(&w) && all;
