@@ -1,7 +1,7 @@
 -- The number that digits stand for, read from the first to the last; it gives a number back from its decimal digits,
 -- and digits with no 0 in front from their number. And the digits of a number: what they are, and how many.
 -- Assumes nothing.
-use mathlib.Core.Path.{_≡_, refl, sym, ap, _∙_, subst}
+use mathlib.Core.Path.{_≡_, refl, sym, ap, _∙_}
 use mathlib.Core.List.{
   List,
   [],

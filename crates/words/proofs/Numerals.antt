@@ -1,9 +1,9 @@
 -- A word of decimal digits, read from the first to the last, is the number that they stand for; any other word is
 -- none. Assumes nothing.
-use mathlib.Core.Path.{_≡_, refl, sym, ap, _∙_, subst}
+use mathlib.Core.Path.{_≡_, ap, _∙_, subst}
 use mathlib.Core.Bool.{true, false}
 use mathlib.Core.List.{List, _∷_, [], _++_}
-use Prim.Native.Nat.{ℕ, suc, _+_, _-_, _*_, _≤_, _<_, min}
+use Prim.Native.Nat.{ℕ, _+_, _-_, _*_, _≤_, _<_, min}
 use native.Mathlib.Numerals.{add-one}
 use native.Mathlib.Omega.{arith}
 use lib.ListN.{length, getD, take}
@@ -11,7 +11,14 @@ use lib.Seq.{take-suc, take-all}
 use Rattle.numbers.specs.Decimal.{decimal}
 use Rattle.numbers.proofs.Cases.{by-order}
 use Rattle.numbers.proofs.Value.{
-  Digit, AllDigits, value, value-none, value-more, decimal-value, decimal-digits, decimal-positive, decimal-no-zero
+  Digit,
+  value,
+  value-none,
+  value-more,
+  decimal-value,
+  decimal-digits,
+  decimal-positive,
+  decimal-no-zero,
 }
 use Rattle.words.specs.Words.{NaturalOf, large}
 use Rattle.words.specs.declared.Digits.{Digits}
@@ -71,14 +78,14 @@ module _ (word : List ℕ) where
         some = known .some;
         front = known .front;
         each = λ k l.
-          by-order k i
-          (λ m. known .each k m)
-          (λ m. let q : k ≡ i = omega arith in rw (q, ← e) (record { from = low; upto = high }));
+            by-order k i
+            (λ m. known .each k m)
+            (λ m. let q : k ≡ i = omega arith in rw (q, ← e) (record { from = low; upto = high }));
         total =
-          let t : take (i + 1) word ≡ take i word ++ (x ∷ []) = rw (add-one, e) (take-suc word i 0 h) in
-          let v = value-more (take i word) x in
-          let k = known .total in
-          rw t (omega arith);
+            let t : take (i + 1) word ≡ take i word ++ (x ∷ []) = rw (add-one, e) (take-suc word i 0 h) in
+            let v = value-more (take i word) x in
+            let k = known .total in
+            rw t (omega arith);
       }
 
   pub natural-read :

@@ -1,8 +1,8 @@
 -- The row of a table that a word is, found by one test after the other. Assumes nothing.
-use mathlib.Core.Path.{_≡_, refl, sym, subst, _∙_}
+use mathlib.Core.Path.{_≡_, sym, subst, _∙_}
 use mathlib.Core.Bool.{Bool, true, false}
 use mathlib.Core.List.{List, []}
-use Prim.Native.Nat.{ℕ, suc, _≤_, _<_}
+use Prim.Native.Nat.{ℕ, suc, _<_}
 use native.Mathlib.Omega.{arith}
 use lib.ListN.{length, getD}
 use Rattle.numbers.proofs.Cases.{by-order}
@@ -23,10 +23,10 @@ module _ (rows : List (List ℕ)) (word : List ℕ) where
   passed-more k other same p e s f =
       record {
         none = λ j h.
-          by-order j k (p .none j)
-          (λ m r.
-          let q : j ≡ k = omega arith in
-          s .apart f (sym (sym e ∙ subst (λ (i : ℕ). getD rows i [] ≡ word) q r)));
+            by-order j k (p .none j)
+            (λ m r.
+            let q : j ≡ k = omega arith in
+            s .apart f (sym (sym e ∙ subst (λ (i : ℕ). getD rows i [] ≡ word) q r)));
       }
 
   pub row-found :

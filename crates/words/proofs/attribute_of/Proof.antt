@@ -1,3 +1,4 @@
+-- `words::attribute_of` meets its contract. Assumes nothing.
 use mathlib.Core.Path.{refl}
 use native.Mathlib.Omega.{arith}
 use borrow.Author.Needs.{needs}
@@ -5,89 +6,67 @@ use Rattle.form.specs.Form.{attributeWords}
 use Rattle.words.proofs.Rows.{passed-none, passed-more, row-found, row-none}
 use Rattle.words.proofs.attribute_of.Statement.{statement}
 use Rattle.words.proofs.attribute_of.Tie as tie
-use Rattle.words.proofs.attribute_of.Reads as reads
-use Rattle.words.proofs.attribute_of.Lts as lts
-use Rattle.words.proofs.is_same.Reads as is-same-reads
 
--- src/lib.rt:64:22
 slice-aggregate-is-same : tie.Need-slice-aggregate-is-same
 slice-aggregate-is-same c = search needs
 
--- src/lib.rt:64:8
 is-same-requires : tie.Need-is-same-requires
 is-same-requires c κs = search needs
 
--- src/lib.rt:65:9
 returns : tie.Need-returns
 unfolding attributeWords
 returns c = row-found attributeWords _ 0 _ _ (omega arith) refl (c .before .is-same .ensures) (c .if1 .taken)
 
--- src/lib.rt:67:22
 slice-aggregate-is-same-2 : tie.Need-slice-aggregate-is-same-2
 slice-aggregate-is-same-2 c = search needs
 
--- src/lib.rt:67:8
 is-same-requires-2 : tie.Need-is-same-requires-2
 is-same-requires-2 c κs = search needs
 
--- src/lib.rt:68:9
 returns-2 : tie.Need-returns-2
 unfolding attributeWords
 returns-2 c = row-found attributeWords _ 1 _ _ (omega arith) refl (c .before .is-same2 .ensures) (c .if2 .taken)
 
--- src/lib.rt:70:22
 slice-aggregate-is-same-3 : tie.Need-slice-aggregate-is-same-3
 slice-aggregate-is-same-3 c = search needs
 
--- src/lib.rt:70:8
 is-same-requires-3 : tie.Need-is-same-requires-3
 is-same-requires-3 c κs = search needs
 
--- src/lib.rt:71:9
 returns-3 : tie.Need-returns-3
 unfolding attributeWords
 returns-3 c = row-found attributeWords _ 2 _ _ (omega arith) refl (c .before .is-same3 .ensures) (c .if3 .taken)
 
--- src/lib.rt:73:22
 slice-aggregate-is-same-4 : tie.Need-slice-aggregate-is-same-4
 slice-aggregate-is-same-4 c = search needs
 
--- src/lib.rt:73:8
 is-same-requires-4 : tie.Need-is-same-requires-4
 is-same-requires-4 c κs = search needs
 
--- src/lib.rt:74:9
 returns-4 : tie.Need-returns-4
 unfolding attributeWords
 returns-4 c = row-found attributeWords _ 3 _ _ (omega arith) refl (c .before .is-same4 .ensures) (c .if4 .taken)
 
--- src/lib.rt:76:22
 slice-aggregate-is-same-5 : tie.Need-slice-aggregate-is-same-5
 slice-aggregate-is-same-5 c = search needs
 
--- src/lib.rt:76:8
 is-same-requires-5 : tie.Need-is-same-requires-5
 is-same-requires-5 c κs = search needs
 
--- src/lib.rt:77:9
 returns-5 : tie.Need-returns-5
 unfolding attributeWords
 returns-5 c = row-found attributeWords _ 4 _ _ (omega arith) refl (c .before .is-same5 .ensures) (c .if5 .taken)
 
--- src/lib.rt:79:22
 slice-aggregate-is-same-6 : tie.Need-slice-aggregate-is-same-6
 slice-aggregate-is-same-6 c = search needs
 
--- src/lib.rt:79:8
 is-same-requires-6 : tie.Need-is-same-requires-6
 is-same-requires-6 c κs = search needs
 
--- src/lib.rt:80:9
 returns-6 : tie.Need-returns-6
 unfolding attributeWords
 returns-6 c = row-found attributeWords _ 5 _ _ (omega arith) refl (c .before .is-same6 .ensures) (c .if6 .taken)
 
--- src/lib.rt:61:1
 returns-7 : tie.Need-returns-7
 unfolding attributeWords
 returns-7 c =

@@ -4,13 +4,10 @@ use mathlib.Core.Path.{_≡_}
 use Prim.Native.Nat.{ℕ, _-_, _≤_, _<_}
 use native.Mathlib.Omega.{arith}
 use borrow.Author.Count.{below-more}
-use borrow.Author.Needs.{needs}
 use lib.ListN.{length, getD}
 use Rattle.words.proofs.Sameness.{same-not-length, same-not-byte, same-bytes}
 use Rattle.words.proofs.is_same.Statement.{statement}
 use Rattle.words.proofs.is_same.Tie as tie
-use Rattle.words.proofs.is_same.Reads as reads
-use Rattle.words.proofs.is_same.Lts as lts
 
 abbrev Inv-loop : tie.InvT-loop
 Inv-loop word other i₀ i =

@@ -7,15 +7,16 @@ use native.Mathlib.Omega.{arith}
 use borrow.Author.Needs.{needs}
 use lib.ListN.{length}
 use Rattle.words.proofs.Numerals.{
-  Read, natural-empty, natural-zero, natural-other, read-none, read-more, natural-read
+  Read,
+  natural-empty,
+  natural-zero,
+  natural-other,
+  read-none,
+  read-more,
+  natural-read,
 }
 use Rattle.words.proofs.natural.Statement.{statement}
 use Rattle.words.proofs.natural.Tie as tie
-use Rattle.words.proofs.natural.Reads as reads
-use Rattle.words.proofs.natural.Lts as lts
-use Rattle.numbers.proofs.byte.Reads as byte-reads
-use Rattle.words.proofs.no_natural.Reads as no-natural-reads
-use Rattle.words.proofs.with_digit.Reads as with-digit-reads
 
 abbrev Inv-loop : tie.InvT-loop
 Inv-loop word value₀ i₀ value i = Read word i value

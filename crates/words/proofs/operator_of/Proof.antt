@@ -1,3 +1,4 @@
+-- `words::operator_of` meets its contract. Assumes nothing.
 use mathlib.Core.Path.{refl}
 use native.Mathlib.Omega.{arith}
 use borrow.Author.Needs.{needs}
@@ -5,76 +6,57 @@ use Rattle.form.specs.Form.{operatorWords}
 use Rattle.words.proofs.Rows.{passed-none, passed-more, row-found, row-none}
 use Rattle.words.proofs.operator_of.Statement.{statement}
 use Rattle.words.proofs.operator_of.Tie as tie
-use Rattle.words.proofs.operator_of.Reads as reads
-use Rattle.words.proofs.operator_of.Lts as lts
-use Rattle.words.proofs.is_same.Reads as is-same-reads
 
--- src/lib.rt:89:22
 slice-aggregate-is-same : tie.Need-slice-aggregate-is-same
 slice-aggregate-is-same c = search needs
 
--- src/lib.rt:89:8
 is-same-requires : tie.Need-is-same-requires
 is-same-requires c κs = search needs
 
--- src/lib.rt:90:9
 returns : tie.Need-returns
 unfolding operatorWords
 returns c = row-found operatorWords _ 0 _ _ (omega arith) refl (c .before .is-same .ensures) (c .if1 .taken)
 
--- src/lib.rt:92:22
 slice-aggregate-is-same-2 : tie.Need-slice-aggregate-is-same-2
 slice-aggregate-is-same-2 c = search needs
 
--- src/lib.rt:92:8
 is-same-requires-2 : tie.Need-is-same-requires-2
 is-same-requires-2 c κs = search needs
 
--- src/lib.rt:93:9
 returns-2 : tie.Need-returns-2
 unfolding operatorWords
 returns-2 c = row-found operatorWords _ 1 _ _ (omega arith) refl (c .before .is-same2 .ensures) (c .if2 .taken)
 
--- src/lib.rt:95:22
 slice-aggregate-is-same-3 : tie.Need-slice-aggregate-is-same-3
 slice-aggregate-is-same-3 c = search needs
 
--- src/lib.rt:95:8
 is-same-requires-3 : tie.Need-is-same-requires-3
 is-same-requires-3 c κs = search needs
 
--- src/lib.rt:96:9
 returns-3 : tie.Need-returns-3
 unfolding operatorWords
 returns-3 c = row-found operatorWords _ 2 _ _ (omega arith) refl (c .before .is-same3 .ensures) (c .if3 .taken)
 
--- src/lib.rt:98:22
 slice-aggregate-is-same-4 : tie.Need-slice-aggregate-is-same-4
 slice-aggregate-is-same-4 c = search needs
 
--- src/lib.rt:98:8
 is-same-requires-4 : tie.Need-is-same-requires-4
 is-same-requires-4 c κs = search needs
 
--- src/lib.rt:99:9
 returns-4 : tie.Need-returns-4
 unfolding operatorWords
 returns-4 c = row-found operatorWords _ 3 _ _ (omega arith) refl (c .before .is-same4 .ensures) (c .if4 .taken)
 
--- src/lib.rt:101:22
 slice-aggregate-is-same-5 : tie.Need-slice-aggregate-is-same-5
 slice-aggregate-is-same-5 c = search needs
 
--- src/lib.rt:101:8
 is-same-requires-5 : tie.Need-is-same-requires-5
 is-same-requires-5 c κs = search needs
 
--- src/lib.rt:102:9
 returns-5 : tie.Need-returns-5
 unfolding operatorWords
 returns-5 c = row-found operatorWords _ 4 _ _ (omega arith) refl (c .before .is-same5 .ensures) (c .if5 .taken)
 
--- src/lib.rt:86:1
 returns-6 : tie.Need-returns-6
 unfolding operatorWords
 returns-6 c =
