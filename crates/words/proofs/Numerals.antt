@@ -33,7 +33,8 @@ pub record Read (word : List ℕ) (i sum : ℕ) : Type 0 where
 
 module _ (word : List ℕ) where
   -- a word that no number is
-  natural-none : (r : Digits) → r ≡ record { ok = false; value = 0 } → ((n : ℕ) → ¬ (decimal n ≡ word)) → NaturalOf word r
+  natural-none :
+      (r : Digits) → r ≡ record { ok = false; value = 0 } → ((n : ℕ) → ¬ (decimal n ≡ word)) → NaturalOf word r
   natural-none r e f = NaturalOf.none f (ap (λ (d : Digits). d .ok) e)
 
   pub natural-empty : (r : Digits) → r ≡ record { ok = false; value = 0 } → length word ≡ 0 → NaturalOf word r
