@@ -18,8 +18,9 @@ pub record Same (word other : List ℕ) (same : Bool) : Type 0 where
   pub equal : same ≡ true → word ≡ other
   pub apart : same ≡ false → ¬ (word ≡ other)
 
--- the row of a table that the word is; a number behind the last row where it is none
+-- the row of a table that the word is; the number behind the last row where it is none
 pub record RowOf (rows : List (List ℕ)) (word : List ℕ) (row : ℕ) : Type 0 where
+  pub upto : row ≤ length rows
   pub found : row < length rows → getD rows row [] ≡ word
   pub none : length rows ≤ row → (k : ℕ) → k < length rows → ¬ (getD rows k [] ≡ word)
 
