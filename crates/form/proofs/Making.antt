@@ -353,3 +353,119 @@ items-finished m =
     let w = map when-item (m .whens) in
     let e = append-assoc s w (within-item (m .duration) ∷ []) in
     subst (λ (l : List Item). end start l .phase ≡ finished) e (finished-items (s ++ w) (m .duration) start)
+
+-- ## The text of lines in order
+
+-- no set line stands behind a when line
+no-sets : (s : State) (l : List Item) → inWhens ≤ s .phase → Valid s l → setsIn l ≡ []
+unfolding Valid Next after setsIn
+no-sets s [] p v = refl
+no-sets s (set-item t ∷ l) p v = let h = v .0 .phase in absurd (omega arith)
+no-sets s (when-item w ∷ l) p v = no-sets (after s (when-item w)) l (omega arith) (v .1)
+no-sets s (within-item n ∷ l) p v = no-sets (after s (within-item n)) l (omega arith) (v .1)
+
+-- a making of any lines
+abbrev pub makingIn : List Item → Making
+makingIn l = record { sets = setsIn l; whens = whensIn l; duration = durationIn l }
+
+whens-shape :
+    (s : State) (l : List Item) → s .phase ≡ inWhens → Valid s l → end s l .phase ≡ finished
+    → map when-item (whensIn l) ++ (within-item (durationIn l) ∷ []) ≡ l
+unfolding Valid Next end after whensIn durationIn
+whens-shape s [] p v f = absurd (omega arith)
+whens-shape s (set-item t ∷ l) p v f = let h = v .0 .phase in absurd (omega arith)
+whens-shape s (when-item w ∷ l) p v f =
+    ap (λ (r : List Item). when-item w ∷ r) (whens-shape (after s (when-item w)) l refl (v .1) f)
+whens-shape s (within-item n ∷ l) p v f =
+    let e = nothing-behind (after s (within-item n)) l refl (v .1) in
+    ap (λ (r : List Item). map when-item (whensIn r) ++ (within-item n ∷ [])) e
+    ∙ ap (λ (r : List Item). within-item n ∷ r) (sym e)
+
+items-shape :
+    (s : State) (l : List Item) → s .phase ≤ inSets → Valid s l → end s l .phase ≡ finished → itemsOf (makingIn l) ≡ l
+unfolding Valid Next end after setsIn whensIn durationIn itemsOf
+items-shape s [] p v f = absurd (omega arith)
+items-shape s (set-item t ∷ l) p v f =
+    ap (λ (r : List Item). set-item t ∷ r) (items-shape (after s (set-item t)) l (omega arith) (v .1) f)
+items-shape s (when-item w ∷ l) p v f =
+    let e = no-sets (after s (when-item w)) l (omega arith) (v .1) in
+    ap (λ (r : List (List Member)). map set-item r ++ (when-item w ∷ (map when-item (whensIn l) ++ (within-item (durationIn l) ∷ [])))) e
+    ∙ ap (λ (r : List Item). when-item w ∷ r) (whens-shape (after s (when-item w)) l refl (v .1) f)
+items-shape s (within-item n ∷ l) p v f =
+    let e = nothing-behind (after s (within-item n)) l refl (v .1) in
+    ap (λ (r : List Item). map set-item (setsIn r) ++ (map when-item (whensIn r) ++ (within-item n ∷ []))) e
+    ∙ ap (λ (r : List Item). within-item n ∷ r) (sym e)
+
+sets-some : (l : List Item) → Valid start l → ¬ (l ≡ []) → ¬ (setsIn l ≡ [])
+unfolding Valid Next setsIn
+sets-some [] v n = absurd (n refl)
+sets-some (set-item t ∷ l) v n = λ e. let z : _≡_ {A = ℕ} 0 1 = cc in omega arith
+sets-some (when-item w ∷ l) v n = let h = v .0 .0 .from in absurd (omega arith)
+sets-some (within-item d ∷ l) v n = let h = v .0 .from in absurd (omega arith)
+
+sets-none-empty :
+    (s : State) (l : List Item) → Valid s l → (t : List Member) → List·Memᴰ t (setsIn l) → ¬ (t ≡ [])
+unfolding Valid Next setsIn
+sets-none-empty s [] v t m = absurd (List·Memᴰ·not-nil m)
+sets-none-empty s (set-item u ∷ l) v t m =
+    let r = sets-none-empty (after s (set-item u)) l (v .1) t in
+    ⊎-elim (λ e. λ k. v .0 .some (sym e ∙ k)) r (List·Memᴰ·cases-cons m)
+sets-none-empty s (when-item w ∷ l) v t m = sets-none-empty (after s (when-item w)) l (v .1) t m
+sets-none-empty s (within-item n ∷ l) v t m = sets-none-empty (after s (within-item n)) l (v .1) t m
+
+sets-small :
+    (s : State) (l : List Item) → Valid s l → (x : ℕ) → List·Memᴰ x (names (setsIn l)) → IsLetter x
+unfolding Valid Next setsIn names flatMap
+sets-small s [] v x m = absurd (List·Memᴰ·not-nil m)
+sets-small s (set-item u ∷ l) v x m =
+    let r = sets-small (after s (set-item u)) l (v .1) x in
+    ⊎-elim (v .0 .small x) r (List·Memᴰ·append-cases (namesOf u) m)
+sets-small s (when-item w ∷ l) v x m = sets-small (after s (when-item w)) l (v .1) x m
+sets-small s (within-item n ∷ l) v x m = sets-small (after s (within-item n)) l (v .1) x m
+
+sets-once : (s : State) (l : List Item) → Once (s .known) → Valid s l → Once (s .known ++ names (setsIn l))
+unfolding Valid Next after setsIn names flatMap
+sets-once s [] o v = rw append-nil o
+sets-once s (set-item u ∷ l) o v =
+    let r = sets-once (after s (set-item u)) l (v .0 .once) (v .1) in
+    rw (append-assoc (s .known) (namesOf u) (names (setsIn l))) at r
+sets-once s (when-item w ∷ l) o v = sets-once (after s (when-item w)) l o (v .1)
+sets-once s (within-item n ∷ l) o v = sets-once (after s (within-item n)) l o (v .1)
+
+whens-in-order :
+    (s : State) (l : List Item) → Valid s l → (w : When) → List·Memᴰ w (whensIn l)
+    → WhenInOrder (s .known ++ names (setsIn l)) w
+unfolding Valid Next after setsIn whensIn names flatMap
+whens-in-order s [] v w m = absurd (List·Memᴰ·not-nil m)
+whens-in-order s (set-item u ∷ l) v w m =
+    let r = whens-in-order (after s (set-item u)) l (v .1) w m in
+    rw (append-assoc (s .known) (namesOf u) (names (setsIn l))) at r
+whens-in-order s (when-item k ∷ l) v w m =
+    let e = no-sets (after s (when-item k)) l (omega arith) (v .1) in
+    let r = whens-in-order (after s (when-item k)) l (v .1) w in
+    ⊎-elim
+    (λ q.
+    subst (λ (t : List (List Member)). WhenInOrder (s .known ++ names t) w) (sym e)
+    (rw (append-nil (s .known)) (subst (λ (w : When). WhenInOrder (s .known) w) (sym q) (v .0 .1))))
+    r (List·Memᴰ·cases-cons m)
+whens-in-order s (within-item n ∷ l) v w m = whens-in-order (after s (within-item n)) l (v .1) w m
+
+-- lines in order up to a within line are those of a making in order
+pub making-in :
+    (l : List Item) → Valid start l → end start l .phase ≡ finished → InOrder (makingIn l) × (itemsOf (makingIn l) ≡ l)
+making-in l v f =
+    let n : ¬ (l ≡ []) = λ e. let k = subst (λ (l : List Item). end start l .phase ≡ finished) e f in never k in
+    (record {
+      some = sets-some l v n;
+      none-empty = sets-none-empty start l v;
+      small = sets-small start l v;
+      once = sets-once start l (unfold Once in tt) v;
+      conditions = whens-in-order start l v;
+    }, items-shape start l (omega arith) v f)
+  where
+    never : end start [] .phase ≡ finished → ⊥
+    never k = unfold end in omega arith
+
+pub making-of :
+    (l : List Item) → Valid start l → end start l .phase ≡ finished → (m : Making) × InOrder m × (itemsOf m ≡ l)
+making-of l v f = let r = making-in l v f in (makingIn l, r .0, r .1)
