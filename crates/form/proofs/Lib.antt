@@ -1,2 +1,3 @@
 pub mod Cancel
 pub mod Making
+pub mod OneLine

@@ -12,4 +12,5 @@ pub mod Sum
 pub mod Subsets
 pub mod Words
 pub mod Decimal
+pub mod Value
 pub mod Put
