@@ -1,3 +1,5 @@
 pub mod Cancel
 pub mod Making
 pub mod OneLine
+pub mod OneMeaning
+pub mod FirstBad
