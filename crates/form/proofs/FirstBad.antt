@@ -84,7 +84,7 @@ lines-split (more {k} {rest} bytes h r) s (i ∷ l) behind f v e =
 -- ## Lines in order begin a text
 
 -- a
-abbrev anyName : Member
+abbrev pub anyName : Member
 anyName = record { name = 97; group = false }
 
 -- any line leads on
@@ -102,10 +102,11 @@ phase-upto s (set-item t ∷ l) h = phase-upto (after s (set-item t)) l (omega a
 phase-upto s (when-item w ∷ l) h = phase-upto (after s (when-item w)) l (omega arith)
 phase-upto s (within-item n ∷ l) h = phase-upto (after s (within-item n)) l (omega arith)
 
-shortest : List Item
+-- the lines of the shortest text
+unfoldable pub shortest : List Item
 shortest = set-item (anyName ∷ []) ∷ within-item 0 ∷ []
 
-shortest-valid : Valid start shortest
+pub shortest-valid : Valid start shortest
 unfolding shortest Valid Next after Once
 shortest-valid =
     (record {

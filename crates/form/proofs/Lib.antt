@@ -3,3 +3,5 @@ pub mod Making
 pub mod OneLine
 pub mod OneMeaning
 pub mod FirstBad
+pub mod Promises
+pub mod WrongReaders

@@ -48,11 +48,11 @@ inked-more : (b : ℕ) (word : List ℕ) → space < b → Inked word → Inked 
 inked-more b word h f x m = ⊎-elim (λ (e : x ≡ b). omega arith) (f x) (List·Memᴰ·cases-cons m)
 
 -- a test of a word, and of each row of a table
-isInked : List ℕ → Bool
+unfoldable pub isInked : List ℕ → Bool
 isInked [] = true
 isInked (b ∷ word) = ltb space b && isInked word
 
-areInked : List (List ℕ) → Bool
+unfoldable pub areInked : List (List ℕ) → Bool
 areInked [] = true
 areInked (word ∷ words) = isInked word && areInked words
 
@@ -114,6 +114,13 @@ all-one a l p f word m =
 
 all-none : AllPlain []
 all-none word m = absurd (List·Memᴰ·not-nil m)
+
+pub inked-words : (words : List (List ℕ)) → areInked words ≡ true → AllPlain words
+unfolding areInked
+inked-words [] e = all-none
+inked-words (word ∷ words) e =
+    let h = both (isInked word) (areInked words) e in
+    all-one word words (inked-plain word (is-inked word (h .0))) (inked-words words (h .1))
 
 members-plain : (l : List Member) → ((x : ℕ) → List·Memᴰ x (namesOf l) → IsLetter x) → AllPlain (map memberWord l)
 members-plain [] f = all-none
