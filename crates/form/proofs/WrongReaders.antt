@@ -78,3 +78,104 @@ module _ (lent : ℕ) (answer : Answer) (after : List ℕ) where
       let r =
           formed shortestText lent answer after p (makingIn shortest) shortest-form .good shortest-fits c (omega arith) .0 in
       (ap (λ (a : Answer). a .code) r, ap (λ (a : Answer). a .used) r ∙ n)
+
+-- ## What a text may not have
+
+-- the first line
+abbrev front : List Item
+front = set-item (anyName ∷ []) ∷ []
+
+front-valid : Valid start front
+unfolding shortest
+front-valid = valid-front start front (within-item 0 ∷ []) shortest-valid
+
+front-line : flatMap itemLine front ≡ setA ++ (lineFeed ∷ [])
+unfolding flatMap itemLine setLine line spaced memberWord
+front-line = refl
+
+front-unfinished : ¬ (end start front .phase ≡ finished)
+unfolding end after
+front-unfinished e = omega arith
+
+hasFeed : List ℕ → Bool
+hasFeed [] = false
+hasFeed (x ∷ l) = eqb lineFeed x || hasFeed l
+
+no-feed : (l : List ℕ) → hasFeed l ≡ false → ¬ List·Memᴰ lineFeed l
+unfolding hasFeed
+no-feed [] e m = List·Memᴰ·not-nil m
+no-feed (x ∷ l) e m =
+    let h = neither (eqb lineFeed x) (hasFeed l) e in
+    ⊎-elim (eqb-false lineFeed x (h .0)) (no-feed l (h .1)) (List·Memᴰ·cases-cons m)
+
+-- no operand begins with a 0 and a digit
+zero-in-front : (o : Operand) (x : ℕ) (l : List ℕ) → 48 ≤ x → ¬ (operandWord o ≡ 48 ∷ x ∷ l)
+unfolding operandWord integer sideWord
+zero-in-front (constant (pos n)) x l h e =
+    let long : 1 < length (decimal n) = rw e (omega arith) in
+    decimal-no-zero n long (rw e refl)
+zero-in-front (constant (negsuc n)) x l h e = let z : minus ≡ 48 = cc in omega arith
+zero-in-front (other s) x l h e = let z : dot ≡ x = cc in omega arith
+
+-- a.core = 007
+abbrev sevenWords : List (List ℕ)
+sevenWords = (97 ∷ 46 ∷ 99 ∷ 111 ∷ 114 ∷ 101 ∷ []) ∷ (61 ∷ []) ∷ (48 ∷ 48 ∷ 55 ∷ []) ∷ []
+
+-- when a.core = 007
+abbrev seven : List ℕ
+seven =
+    119 ∷ 104 ∷ 101 ∷ 110
+    ∷ 32 ∷ 97 ∷ 46 ∷ 99 ∷ 111 ∷ 114 ∷ 101
+    ∷ 32 ∷ 61
+    ∷ 32 ∷ 48 ∷ 48 ∷ 55
+    ∷ []
+
+seven-spaced : seven ++ (lineFeed ∷ []) ≡ 119 ∷ 104 ∷ 101 ∷ 110 ∷ (spaced sevenWords ++ (lineFeed ∷ []))
+unfolding spaced
+seven-spaced = refl
+
+no-seven : (i : Item) → Next (end start front) i → ¬ (itemLine i ≡ seven ++ (lineFeed ∷ []))
+unfolding firstOf
+no-seven (set-item members) n e =
+    let h = sym (line-of (set-item members)) ∙ e in let z : _≡_ {A = ℕ} 115 119 = cc in omega arith
+no-seven (when-item w) n e =
+    let h = sym (line-of (when-item w)) ∙ e ∙ seven-spaced in
+    let p = words-plain (end start front) (when-item w) (lettered-end start front lettered-start front-valid) n in
+    let q = inked-words sevenWords (unfold areInked isInked in refl) in
+    let r = words-same (wordsOf (when-item w)) sevenWords [] [] p q (cc) .0 in
+    last r
+  where
+    last : wordsOf (when-item w) ≡ sevenWords → ⊥
+    last r = unfold wordsOf in zero-in-front (w .right) 48 (55 ∷ []) (omega arith) (cc)
+no-seven (within-item d) n e =
+    let h = sym (line-of (within-item d)) ∙ e in let z : _≡_ {A = ℕ} 105 104 = cc in omega arith
+
+abbrev pub sevenText : List ℕ
+sevenText = setA ++ (lineFeed ∷ (seven ++ (lineFeed ∷ (within0 ++ (lineFeed ∷ [])))))
+
+seven-bad : FirstBad sevenText 1
+seven-bad =
+    bad-line sevenText front seven (within0 ++ (lineFeed ∷ [])) front-valid
+    (rw front-line refl)
+    (no-feed seven (unfold hasFeed in refl))
+    no-seven
+
+-- the shortest text without its last line feed
+abbrev pub cutText : List ℕ
+cutText = setA ++ (lineFeed ∷ within0)
+
+cut-bad : FirstBad cutText 1
+cut-bad =
+    missing-line cutText front within0 front-valid (rw front-line refl) (no-feed within0 (unfold hasFeed in refl))
+    (λ e. front-unfinished)
+
+module _ (lent : ℕ) (answer : Answer) (after : List ℕ) where
+  pub no-zero-in-front : ReadPromise sevenText lent answer after → (answer .code ≡ 14) × (answer .place ≡ 1)
+  no-zero-in-front p =
+      let r = refuses sevenText lent answer after p 1 seven-bad .0 in
+      (ap (λ (a : Answer). a .code) r, ap (λ (a : Answer). a .place) r)
+
+  pub no-text-cut : ReadPromise cutText lent answer after → (answer .code ≡ 14) × (answer .place ≡ 1)
+  no-text-cut p =
+      let r = refuses cutText lent answer after p 1 cut-bad .0 in
+      (ap (λ (a : Answer). a .code) r, ap (λ (a : Answer). a .place) r)
