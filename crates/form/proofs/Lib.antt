@@ -1,2 +1,9 @@
 pub mod Example
 pub mod Exactly
+pub mod Cancel
+pub mod Making
+pub mod OneLine
+pub mod OneMeaning
+pub mod FirstBad
+pub mod Promises
+pub mod WrongReaders
