@@ -27,7 +27,9 @@ part word size weight high mid low e m l =
     ∙ lowest size high mid m
 
 -- one part more of a number, behind those above it
-joined : (word size weight high : ℕ) → high ≡ word / (weight * size) → high * size + word / weight % size ≡ word / weight
+pub joined :
+    (word size weight high : ℕ) → high ≡ word / (weight * size)
+    → high * size + word / weight % size ≡ word / weight
 joined word size weight high e =
     ap (λ (x : ℕ). x * size + word / weight % size) (e ∙ sym (div-div-eq-div-mul word weight size))
     ∙ div-add-mod' (word / weight) size

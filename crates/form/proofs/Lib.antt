@@ -1,2 +1,3 @@
 pub mod WordBytes
 pub mod Fields
+pub mod Assembled

@@ -4,6 +4,7 @@ use mathlib.Core.List.{List, [], _∷_, _++_, map}
 use Prim.Native.Nat.{ℕ, zero, suc, _+_, _*_, _/_, _%_, _^_, _≤_, _<_}
 use native.Mathlib.Nat.{add-zero, add-assoc, zero-add, div-one, div-div-eq-div-mul, div-add-mod'}
 use native.Mathlib.Numerals.{add-one, add-two, add-three, add-four, add-five, add-six, add-seven}
+use native.Mathlib.Nat.{pow-suc}
 use native.Mathlib.Omega.{arith}
 use lib.ListN.{length, take, drop, getD}
 use lib.Seq.{getD-append-add, drop-cons}
@@ -103,3 +104,13 @@ number-bytes l at small h =
     ap wordBytes (simp (zero-add, add-zero, add-one, add-two, add-three, add-four, add-five, add-six, add-seven))
     ∙ bytes-back (byte at) (byte (suc at)) (byte (suc (suc at))) (byte (suc (suc (suc at)))) _ _ _ _ (small _) (small _) (small _) (small _) (small _) (small _) (small _) (small _)
     ∙ sym (taken l at 8 h)
+
+pub number-bound : (l : List ℕ) (at n : ℕ) → ((i : ℕ) → getD l i 0 < 256) → number l at n < 256 ^ n
+unfolding number
+number-bound l at zero small = omega arith
+number-bound l at (suc n) small =
+    omega (arith, number-bound l at n small, small (at + n), pow-suc 256 n)
+
+pub word-length : (w : ℕ) → length (wordBytes w) ≡ 8
+unfolding wordBytes
+word-length w = refl
