@@ -1,3 +1,4 @@
 pub mod WordBytes
 pub mod Fields
 pub mod Assembled
+pub mod Meaning
