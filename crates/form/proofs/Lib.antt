@@ -2,3 +2,5 @@ pub mod WordBytes
 pub mod Fields
 pub mod Assembled
 pub mod Meaning
+pub mod Places
+pub mod Sizes
