@@ -4,3 +4,4 @@ pub mod Assembled
 pub mod Meaning
 pub mod Places
 pub mod Sizes
+pub mod Judged
