@@ -55,6 +55,7 @@ pub data ReadPromise (text : List ℕ) (lent : ℕ) (answer : Answer) (after : L
 -- Rule 11.7: the making of a pattern, with a, b, c for its variables
 pub record Names (pattern : List ℕ) (m : Making) : Type 0 where
   pub order : InOrder m
+  pub fits : Fits m
   pub alphabet : names (m .sets) ≡ upto firstLetter (variableCount pattern)
   pub same : patternBytes m ≡ pattern
 
