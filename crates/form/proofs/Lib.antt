@@ -5,3 +5,4 @@ pub mod Meaning
 pub mod Places
 pub mod Sizes
 pub mod Judged
+pub mod OneNames
