@@ -6,3 +6,4 @@ pub mod Places
 pub mod Sizes
 pub mod Judged
 pub mod OneNames
+pub mod OneWritten
