@@ -7,3 +7,12 @@ pub mod OneMeaning
 pub mod FirstBad
 pub mod Promises
 pub mod WrongReaders
+pub mod WordBytes
+pub mod Fields
+pub mod Assembled
+pub mod Meaning
+pub mod Places
+pub mod Sizes
+pub mod Judged
+pub mod OneNames
+pub mod OneWritten

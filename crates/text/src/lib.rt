@@ -1,12 +1,16 @@
 // The text form of patterns: texts read into pattern bytes, and written from them.
 ghost use mathlib.Core.Path.{_≡_};
-ghost use Prim.Native.Nat.{_+_, _*_, _^_, _≤_, _<_};
-ghost use lib.ListN.{length};
+ghost use mathlib.Core.List.{flatMap};
+ghost use Prim.Native.Nat.{_+_, _≤_, min};
+ghost use lib.ListN.{length, take, replicate};
 ghost use Rattle.numbers.specs.Put.{Put};
+ghost use Rattle.numbers.specs.Bytes.{wordBytes};
 ghost use Rattle.patterns.specs.Patterns.{mostVariables, mostConditions};
-ghost use Rattle.form.specs.Promises.{ReadPromise, WritePromise};
+ghost use Rattle.form.specs.Packed.{headerBits};
+ghost use Rattle.form.specs.Promises.{ReadPromise, WritePromise, written, mostPlace};
 ghost use Rattle.drafts.specs.Drafts.{Small};
 ghost use Rattle.text.specs.Texts.{TextRead, draftBytes};
+ghost use Rattle.text.specs.Fitting.{DraftFits, Measured};
 use drafts::Draft;
 use records::Answer;
 
@@ -67,12 +71,18 @@ fn read_lines(text: &[u8]) -> Reading
 }
 
 // The header of a draft that fits a pattern.
-fn header_bits(d: Draft) -> u64 {
+fn header_bits(d: Draft) -> u64
+    requires { ⌜ DraftFits d ⌝ }
+    ensures { λ r. ⌜ r ≡ headerBits (d .n) (d .c) (d .duration) ⌝ }
+{
     1152921504606846976 + d.n as u64 * 72057594037927936 + d.c as u64 * 281474976710656 + d.duration
 }
 
 // The bytes of the variables.
-fn put_variables(d: Draft, bytes: &mut [u8]) -> usize {
+fn put_variables(d: Draft, bytes: &mut [u8]) -> usize
+    requires { ⌜ (length (d .variables) ≡ mostVariables) × (d .n ≤ mostVariables) × (276 ≤ length (now bytes)) ⌝ }
+    ensures { λ r. ⌜ Put (now (bytes .entry)) (now (bytes .exit)) 8 (take (d .n) (d .variables)) r ⌝ }
+{
     let n = d.n as usize;
     let mut v = 0;
     while v < n {
@@ -83,7 +93,11 @@ fn put_variables(d: Draft, bytes: &mut [u8]) -> usize {
 }
 
 // The bytes of the conditions.
-fn put_conditions(d: Draft, bytes: &mut [u8], at: usize) -> usize {
+fn put_conditions(d: Draft, bytes: &mut [u8], at: usize) -> usize
+    requires { ⌜ (length (d .conditions) ≡ mostConditions) × (d .c ≤ mostConditions)
+        × (at + 256 ≤ length (now bytes)) ⌝ }
+    ensures { λ r. ⌜ Put (now (bytes .entry)) (now (bytes .exit)) at (flatMap wordBytes (take (d .c) (d .conditions))) r ⌝ }
+{
     let c = d.c as usize;
     let mut end = at;
     let mut i = 0;
@@ -97,8 +111,7 @@ fn put_conditions(d: Draft, bytes: &mut [u8], at: usize) -> usize {
 
 // The pattern of a draft, from the beginning of the memory on.
 fn put_draft(d: Draft, bytes: &mut [u8]) -> usize
-    requires { ⌜ Small d × (d .n ≤ mostVariables) × (d .c ≤ mostConditions) × (d .duration < 2 ^ 40)
-        × (276 ≤ length (now bytes)) ⌝ }
+    requires { ⌜ Small d × DraftFits d × (276 ≤ length (now bytes)) ⌝ }
     ensures { λ r. ⌜ Put (now (bytes .entry)) (now (bytes .exit)) 0 (draftBytes d) r × (r ≤ 276) ⌝ }
 {
     numbers::store_word(bytes, 0, header_bits(d));
@@ -107,25 +120,34 @@ fn put_draft(d: Draft, bytes: &mut [u8]) -> usize
 }
 
 // Whether a pattern has fields for it.
-fn is_too_large(d: Draft) -> bool {
+fn is_too_large(d: Draft) -> bool
+    ensures { λ r. ⌜ Measured d r ⌝ }
+{
     if 12 < d.n {
         return true;
     }
     if 32 < d.c {
         return true;
     }
-    words::LARGE <= d.duration
+    if words::LARGE <= d.duration {
+        return true;
+    }
+    false
 }
 
 // A line's number as a place.
-fn place(line: usize) -> u32 {
+fn place(line: usize) -> u32
+    ensures { λ r. ⌜ r ≡ min line mostPlace ⌝ }
+{
     if 4294967295 < line {
         return 4294967295;
     }
     line as u32
 }
 
-fn success(bytes: usize) -> Answer {
+fn success(bytes: usize) -> Answer
+    ensures { λ r. ⌜ r ≡ written bytes ⌝ }
+{
     Answer {
         code: 0,
         place: 0,
@@ -133,6 +155,13 @@ fn success(bytes: usize) -> Answer {
         readings: 0,
         peak: 0,
     }
+}
+
+// Room for the longest pattern.
+fn room() -> [u8; MOST_BYTES]
+    ensures { λ r. ⌜ r ≡ replicate 276 0 ⌝ }
+{
+    [0; MOST_BYTES]
 }
 
 // Reads a text into the bytes of a pattern.
@@ -147,7 +176,7 @@ pub fn read_text(text: &[u8], pattern: &mut [u8]) -> Answer
     if is_too_large(read.draft) {
         return records::refusal(2, 0);
     }
-    let mut bytes = [0; MOST_BYTES];
+    let mut bytes = room();
     let used = put_draft(read.draft, &mut bytes);
     let checked = patterns::check_pattern(&bytes[..used]);
     if checked.code != 0 {
@@ -157,23 +186,5 @@ pub fn read_text(text: &[u8], pattern: &mut [u8]) -> Answer
         return records::refusal(12, 0);
     }
     numbers::put_word(pattern, 0, &bytes[..used]);
-    success(used)
-}
-
-// Writes the text of a pattern.
-pub fn write_text(pattern: &[u8], text: &mut [u8]) -> Answer
-    ensures { λ r. ⌜ WritePromise (now (pattern .entry)) (length (now (text .entry))) r (now (text .exit)) ⌝ }
-{
-    numbers::clear(text);
-    let checked = patterns::check_pattern(pattern);
-    if checked.code != 0 {
-        return records::refusal(checked.code, checked.place);
-    }
-    let mut room = [0; wording::MOST_TEXT];
-    let used = wording::put_pattern(checked.pattern, &mut room);
-    if text.len() < used {
-        return records::refusal(12, 0);
-    }
-    numbers::put_word(text, 0, &room[..used]);
     success(used)
 }
