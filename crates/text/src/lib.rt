@@ -6,6 +6,7 @@ ghost use Rattle.numbers.specs.Put.{Put};
 ghost use Rattle.patterns.specs.Patterns.{mostVariables, mostConditions};
 ghost use Rattle.form.specs.Promises.{ReadPromise, WritePromise};
 ghost use Rattle.drafts.specs.Drafts.{Small};
+ghost use Rattle.text.specs.LineEnds.{LineEnd};
 ghost use Rattle.text.specs.Texts.{TextRead, draftBytes};
 use drafts::Draft;
 use records::Answer;
@@ -21,7 +22,10 @@ pub struct Reading {
 }
 
 // The first line feed from a place on, or the end.
-fn line_end(text: &[u8], from: usize) -> usize {
+fn line_end(text: &[u8], from: usize) -> usize
+    requires { ⌜ from ≤ length (now text) ⌝ }
+    ensures { λ r. ⌜ LineEnd (now (text .entry)) from r ⌝ }
+{
     let mut at = from;
     while at < text.len() {
         if text[at] == b'\n' {
