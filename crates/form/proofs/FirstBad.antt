@@ -82,7 +82,7 @@ lines-split (more {k} {rest} bytes h r) s (i ∷ l) behind f v e =
 
 -- ## Lines in order begin a text
 
--- a
+-- the variable `a`
 abbrev pub anyName : Member
 anyName = record { name = 97; group = false }
 
