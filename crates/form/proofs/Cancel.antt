@@ -1,9 +1,9 @@
 -- Two texts cut at the first separator. Assumes nothing.
-use mathlib.Core.Path.{_≡_, refl, sym, ap, _∙_}
+use mathlib.Core.Path.{_≡_, refl, sym}
 use mathlib.Core.Logic.{_⊎_, inl, inr, ⊎-elim}
 use mathlib.Core.List.{List, [], _∷_, _++_, append-assoc, List·Memᴰ, List·Memᴰ·head, List·Memᴰ·tail}
-use mathlib.Core.List.{List·Memᴰ·append-cases, List·Memᴰ·cases-cons, List·Memᴰ·not-nil, Memᴰ·cast}
-use Prim.Native.Nat.{ℕ, _≤_}
+use mathlib.Core.List.{Memᴰ·cast}
+use Prim.Native.Nat.{ℕ}
 use native.Mathlib.Omega.{arith}
 use Rattle.form.specs.Form.{lineFeed, space, spaced}
 
@@ -29,8 +29,8 @@ pub cut-same :
     → (a ≡ b) × (x ≡ y)
 cut-same sep a b x y na nb e =
     let r =
-        cut-first (λ (z : ℕ). sep ≡ z) a b x y sep sep (λ z m q. na (Memᴰ·cast q m)) (λ z m q. nb (Memᴰ·cast q m)) refl refl
-        e in
+    cut-first (λ (z : ℕ). sep ≡ z) a b x y sep sep (λ z m q. na (Memᴰ·cast q m)) (λ z m q. nb (Memᴰ·cast q m)) refl refl
+    e in
     (r .0, r .2)
 
 -- a word: neither space nor line feed in it
@@ -47,7 +47,8 @@ Separator z = (z ≡ space) ⊎ (z ≡ lineFeed)
 
 plain-separator : (word : List ℕ) → Plain word → (z : ℕ) → List·Memᴰ z word → ¬ Separator z
 plain-separator word p z m s =
-    ⊎-elim (λ (q : z ≡ space). p .no-space (Memᴰ·cast (sym q) m)) (λ (q : z ≡ lineFeed). p .no-feed (Memᴰ·cast (sym q) m))
+    ⊎-elim (λ (q : z ≡ space). p .no-space (Memᴰ·cast (sym q) m))
+    (λ (q : z ≡ lineFeed). p .no-feed (Memᴰ·cast (sym q) m))
     s
 
 -- what stands behind a word begins with a separator
@@ -77,11 +78,11 @@ words-same (u ∷ a) (v ∷ b) x y pa pb e =
     let h : u ++ (spaced a ++ (lineFeed ∷ x)) ≡ v ++ (spaced b ++ (lineFeed ∷ y)) = cc in
     let h' : u ++ (p .0 ∷ p .1) ≡ v ++ (q .0 ∷ q .1) = cc in
     let r =
-        cut-first Separator u v (p .1) (q .1) (p .0) (q .0) (plain-separator u (pa u (List·Memᴰ·head refl)))
-        (plain-separator v (pb v (List·Memᴰ·head refl)))
-        (p .2)
-        (q .2)
-        h' in
+    cut-first Separator u v (p .1) (q .1) (p .0) (q .0) (plain-separator u (pa u (List·Memᴰ·head refl)))
+    (plain-separator v (pb v (List·Memᴰ·head refl)))
+    (p .2)
+    (q .2)
+    h' in
     let r1 = r .1 in
     let r2 = r .2 in
     let g : spaced a ++ (lineFeed ∷ x) ≡ spaced b ++ (lineFeed ∷ y) = cc in

@@ -1,23 +1,22 @@
 -- The first line of a text that is bad or missing. Assumes nothing.
 use mathlib.Core.Path.{_≡_, refl, sym, ap, _∙_, subst}
-use mathlib.Core.Logic.{⊎-elim}
-use mathlib.Core.Bool.{true, false}
+use mathlib.Core.Bool.{false}
 use mathlib.Core.List.{List, [], _∷_, _++_, flatMap, append-assoc, append-nil}
 use mathlib.Core.List.{List·Memᴰ, List·Memᴰ·head, Memᴰ·append-right, List·Memᴰ·eq-of-singleton, List·Memᴰ·not-nil}
-use Prim.Native.Nat.{ℕ, zero, suc, _+_, _≤_, _<_}
+use Prim.Native.Nat.{ℕ, suc, _+_, _≤_, _<_}
 use native.Mathlib.Omega.{arith}
 use lib.ListN.{length, take, drop, take-append-drop, length-append}
 use lib.Seq.{length-take-le}
 use Rattle.numbers.proofs.Cases.{by-order}
-use Rattle.form.specs.Form.{Member, Making, lineFeed, textOf, namesOf, IsLetter, Once, InOrder, InForm}
+use Rattle.form.specs.Form.{Member, Making, lineFeed, textOf, Once, InOrder, InForm}
 use Rattle.form.specs.Lines.{Lines, none, more, Begins, FirstBad}
 use Rattle.form.specs.Items.{Item, set-item, when-item, within-item, itemLine, itemsOf}
-use Rattle.form.specs.Items.{State, start, inSets, inWhens, finished, SetNext, Named, Next, after, Valid, end}
+use Rattle.form.specs.Items.{State, start, finished, Next, after, Valid, end}
 use Rattle.form.proofs.Cancel.{cut-same}
 use Rattle.form.proofs.Making.{text-items, items-valid, items-finished, making-of, flat-append}
 use Rattle.form.proofs.Making.{valid-front, valid-back, valid-snoc, end-snoc}
-use Rattle.form.proofs.OneLine.{Lettered, line-shape}
-use Rattle.form.proofs.OneMeaning.{lettered-start, lettered-after, lettered-end, line-then, line-some, lines-more}
+use Rattle.form.proofs.OneLine.{Lettered}
+use Rattle.form.proofs.OneMeaning.{lettered-start, lettered-after, lettered-end, line-then, lines-more}
 use Rattle.form.proofs.OneMeaning.{follow, no-lines}
 
 -- ## One place
@@ -54,8 +53,8 @@ module _ (i : Item) (bytes : List ℕ) (rest : List ℕ) where
   line-taken s l behind f n h e =
       let t = line-then s i (flatMap itemLine l) f n in
       let c =
-          cut-same lineFeed (t .0) bytes (flatMap itemLine l) (rest ++ behind) (t .1) h
-          (sym (t .3) ∙ e ∙ append-assoc bytes (lineFeed ∷ rest) behind) in
+      cut-same lineFeed (t .0) bytes (flatMap itemLine l) (rest ++ behind) (t .1) h
+      (sym (t .3) ∙ e ∙ append-assoc bytes (lineFeed ∷ rest) behind) in
       (t .2 ∙ ap (λ (b : List ℕ). b ++ (lineFeed ∷ [])) (c .0), c .1)
 
   line-put :
@@ -83,7 +82,7 @@ lines-split (more {k} {rest} bytes h r) s (i ∷ l) behind f v e =
 
 -- ## Lines in order begin a text
 
--- a
+-- the variable `a`
 abbrev pub anyName : Member
 anyName = record { name = 97; group = false }
 
@@ -108,14 +107,16 @@ shortest = set-item (anyName ∷ []) ∷ within-item 0 ∷ []
 
 pub shortest-valid : Valid start shortest
 unfolding shortest Valid Next after Once
-shortest-valid =
-    (record {
-      phase = omega arith;
-      some = λ e. let z : _≡_ {A = ℕ} 0 1 = cc in omega arith;
-      small = λ x m.
-          let e = List·Memᴰ·eq-of-singleton m in record { from = omega arith; below = omega arith };
-      once = ((λ m. List·Memᴰ·not-nil m), tt);
-    }, (record { from = omega arith; upto = omega arith }, tt))
+shortest-valid = (
+  record {
+    phase = omega arith;
+    some = λ e. let z : _≡_ {A = ℕ} 0 1 = cc in omega arith;
+    small = λ x m.
+        let e = List·Memᴰ·eq-of-singleton m in record { from = omega arith; below = omega arith };
+    once = ((λ m. List·Memᴰ·not-nil m), tt);
+  },
+  (record { from = omega arith; upto = omega arith }, tt),
+)
 
 -- lines that end a text
 completes :
@@ -123,18 +124,26 @@ completes :
 completes [] v = (shortest, shortest-valid, unfold shortest end after in refl)
 completes (i ∷ l) v =
     by-order (end start (i ∷ l) .phase) finished
-    (λ h. (within-item 0 ∷ [], valid-snoc start (i ∷ l) (within-item 0) v (named h), rw (end-snoc start (i ∷ l) (within-item 0)) (unfold after in refl)))
-    (λ h. ([], subst (λ (l : List Item). Valid start l) (sym (append-nil (i ∷ l))) v, rw (append-nil (i ∷ l)) (omega (arith, phase-upto start (i ∷ l) (omega arith)))))
+    (λ h.
+    let last : end start ((i ∷ l) ++ (within-item 0 ∷ [])) .phase ≡ finished =
+    rw (end-snoc start (i ∷ l) (within-item 0)) (unfold after in refl) in
+    (within-item 0 ∷ [], valid-snoc start (i ∷ l) (within-item 0) v (named h), last))
+    (λ h.
+    let last : end start (i ∷ l) .phase ≡ finished = omega (arith, phase-upto start (i ∷ l) (omega arith)) in
+    ([], rw (append-nil (i ∷ l)) v, rw (append-nil (i ∷ l)) last))
   where
     named : end start (i ∷ l) .phase < finished → Next (end start (i ∷ l)) (within-item 0)
     named h = unfold Next in record { from = phase-some start i l; upto = omega arith }
 
 -- lines in order begin a text
-pub begins-text : (l : List Item) → Valid start l → (m : Making) × InOrder m × (rest : List ℕ) × (textOf m ≡ flatMap itemLine l ++ rest)
+pub begins-text :
+    (l : List Item) → Valid start l
+    → (m : Making) × InOrder m × (rest : List ℕ) × (textOf m ≡ flatMap itemLine l ++ rest)
 begins-text l v =
     let c = completes l v in
     let r = making-of (l ++ c .0) (c .1) (c .2) in
-    (r .0, r .1, flatMap itemLine (c .0), text-items (r .0) ∙ ap (λ (l : List Item). flatMap itemLine l) (r .2) ∙ flat-append itemLine l (c .0))
+    let e = text-items (r .0) ∙ ap (λ (l : List Item). flatMap itemLine l) (r .2) ∙ flat-append itemLine l (c .0) in
+    (r .0, r .1, flatMap itemLine (c .0), e)
 
 -- so they and any of the first of them begin any text that begins with them
 pub begins-lines :
@@ -147,13 +156,14 @@ begins-lines text l x v e k h =
     let va = valid-front start a b (subst (λ (l : List Item). Valid start l) s v) in
     let t = begins-text l v in
     let whole : (x : List ℕ) → flatMap itemLine l ++ x ≡ flatMap itemLine a ++ (flatMap itemLine b ++ x) =
-        λ x.
-        ap (λ (l : List Item). flatMap itemLine l ++ x) s
-        ∙ ap (λ (y : List ℕ). y ++ x) (flat-append itemLine a b)
-        ∙ append-assoc (flatMap itemLine a) (flatMap itemLine b) x in
+    λ x.
+    ap (λ (l : List Item). flatMap itemLine l ++ x) s
+    ∙ ap (λ (y : List ℕ). y ++ x) (flat-append itemLine a b)
+    ∙ append-assoc (flatMap itemLine a) (flatMap itemLine b) x in
     record {
       begin = flatMap itemLine a;
-      lines = subst (λ (n : ℕ). Lines n (flatMap itemLine a)) (length-take-le k l h) (lines-of start a lettered-start va);
+      lines =
+          subst (λ (n : ℕ). Lines n (flatMap itemLine a)) (length-take-le k l h) (lines-of start a lettered-start va);
       behind = flatMap itemLine b ++ x;
       ours = e ∙ whole x;
       making = t .0;
@@ -169,40 +179,42 @@ module _
     (stops : (i : Item) (y : List ℕ) → Next (end start l) i → ¬ (x ≡ itemLine i ++ y))
     (unfinished : x ≡ [] → ¬ (end start l .phase ≡ finished))
   where
-  -- no lines in order go further
-  no-further : (k : List Item) (y : List ℕ) → Valid start k → text ≡ flatMap itemLine k ++ y → length l < length k → ⊥
-  no-further k y w q h =
-      let r = follow start l k x y lettered-start v w (sym e ∙ q) (omega arith) in
-      let w' = valid-back start l (r .0) (subst (λ (k : List Item). Valid start k) (r .1) w) in
-      next (r .0) (ap length (r .1) ∙ length-append l (r .0)) w' (r .2)
-    where
-      next : (m : List Item) → length k ≡ length l + length m → Valid (end start l) m → x ≡ flatMap itemLine m ++ y → ⊥
-      next [] n w c = omega arith
-      next (i ∷ m) n w c = unfold Valid in stops i (flatMap itemLine m ++ y) (w .0) (c ∙ lines-more i m y)
+    -- no lines in order go further
+    no-further : (k : List Item) (y : List ℕ) → Valid start k → text ≡ flatMap itemLine k ++ y → length l < length k → ⊥
+    no-further k y w q h =
+        let r = follow start l k x y lettered-start v w (sym e ∙ q) (omega arith) in
+        let w' = valid-back start l (r .0) (subst (λ (k : List Item). Valid start k) (r .1) w) in
+        next (r .0) (ap length (r .1) ∙ length-append l (r .0)) w' (r .2)
+      where
+        next :
+            (m : List Item) → length k ≡ length l + length m → Valid (end start l) m → x ≡ flatMap itemLine m ++ y
+            → ⊥
+        next [] n w c = omega arith
+        next (i ∷ m) n w c = unfold Valid in stops i (flatMap itemLine m ++ y) (w .0) (c ∙ lines-more i m y)
 
-  not-of-the-form : (m : Making) → ¬ InForm text m
-  not-of-the-form m o =
-      let k = itemsOf m in
-      let w = items-valid m (o .order) in
-      let q : text ≡ flatMap itemLine k ++ [] = o .bytes ∙ text-items m ∙ sym (append-nil (flatMap itemLine k)) in
-      by-order (length l) (length k) (no-further k [] w q)
-      (λ h.
-      let r = follow start k l [] x lettered-start w v (sym q ∙ e) h in
-      let v' = valid-back start k (r .0) (subst (λ (l : List Item). Valid start l) (r .1) v) in
-      let n = no-lines (end start k) (r .0) x (lettered-end start k lettered-start w) v' (r .2) in
-      let s : l ≡ k = r .1 ∙ ap (λ (m : List Item). k ++ m) (n .0) ∙ append-nil k in
-      unfinished (n .1) (ap (λ (l : List Item). end start l .phase) s ∙ items-finished m))
+    not-of-the-form : (m : Making) → ¬ InForm text m
+    not-of-the-form m o =
+        let k = itemsOf m in
+        let w = items-valid m (o .order) in
+        let q : text ≡ flatMap itemLine k ++ [] = o .bytes ∙ text-items m ∙ sym (append-nil (flatMap itemLine k)) in
+        by-order (length l) (length k) (no-further k [] w q)
+        (λ h.
+        let r = follow start k l [] x lettered-start w v (sym q ∙ e) h in
+        let v' = valid-back start k (r .0) (subst (λ (l : List Item). Valid start l) (r .1) v) in
+        let n = no-lines (end start k) (r .0) x (lettered-end start k lettered-start w) v' (r .2) in
+        let s : l ≡ k = r .1 ∙ ap (λ (m : List Item). k ++ m) (n .0) ∙ append-nil k in
+        unfinished (n .1) (ap (λ (l : List Item). end start l .phase) s ∙ items-finished m))
 
-  not-begun : ¬ Begins text (suc (length l))
-  not-begun b =
-      let m = b .making in
-      let w = items-valid m (b .order) in
-      let u = lines-split (b .lines) start (itemsOf m) (b .rest) lettered-start w (sym (text-items m) ∙ b .theirs) in
-      let w' = valid-front start (u .0) (u .1) (subst (λ (l : List Item). Valid start l) (u .2) w) in
-      no-further (u .0) (b .behind) w' (b .ours ∙ ap (λ (y : List ℕ). y ++ b .behind) (u .3)) (omega (arith, u .4))
+    not-begun : ¬ Begins text (suc (length l))
+    not-begun b =
+        let m = b .making in
+        let w = items-valid m (b .order) in
+        let u = lines-split (b .lines) start (itemsOf m) (b .rest) lettered-start w (sym (text-items m) ∙ b .theirs) in
+        let w' = valid-front start (u .0) (u .1) (subst (λ (l : List Item). Valid start l) (u .2) w) in
+        no-further (u .0) (b .behind) w' (b .ours ∙ ap (λ (y : List ℕ). y ++ b .behind) (u .3)) (omega (arith, u .4))
 
-  pub stops-here : FirstBad text (length l)
-  stops-here = record { outside = not-of-the-form; before = begins-lines text l x v e; bad = not-begun }
+    pub stops-here : FirstBad text (length l)
+    stops-here = record { outside = not-of-the-form; before = begins-lines text l x v e; bad = not-begun }
 
 -- no line in order has the bytes of the next line
 pub bad-line :

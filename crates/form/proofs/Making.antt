@@ -1,16 +1,17 @@
 -- A text line by line and by its parts: each form gives the other. Assumes nothing.
 use mathlib.Core.Path.{_≡_, refl, sym, ap, _∙_, subst}
-use mathlib.Core.Logic.{_⊎_, inl, inr, ⊎-elim}
+use mathlib.Core.Logic.{⊎-elim}
 use mathlib.Core.List.{List, [], _∷_, _++_, map, flatMap, append-assoc, append-nil}
 use mathlib.Core.List.{List·Memᴰ, List·Memᴰ·head, List·Memᴰ·tail, Memᴰ·append-left, Memᴰ·append-right}
 use mathlib.Core.List.{List·Memᴰ·append-cases, List·Memᴰ·cases-cons, List·Memᴰ·not-nil}
-use Prim.Native.Nat.{ℕ, zero, suc, _+_, _≤_, _<_}
+use Prim.Native.Nat.{ℕ, _≤_}
 use native.Mathlib.Omega.{arith}
-use lib.ListN.{length, length-append, length-map}
+use lib.ListN.{length, length-append}
 use Rattle.form.specs.Form.{Member, When, Making, setLine, whenLine, withinLine, textOf, namesOf, names}
 use Rattle.form.specs.Form.{IsLetter, Once, WhenInOrder, InOrder}
-use Rattle.form.specs.Items.{Item, set-item, when-item, within-item, itemLine, itemsOf, setsIn, whensIn, durationIn}
-use Rattle.form.specs.Items.{nothingYet, inSets, inWhens, finished, State, start, SetNext, Named, Next, after}
+use Rattle.form.specs.Items.{Item, set-item, when-item, within-item, itemLine, itemsOf}
+use Rattle.form.specs.Items.{setsIn, whensIn, durationIn}
+use Rattle.form.specs.Items.{inSets, inWhens, finished, State, start, Named, Next, after}
 use Rattle.form.specs.Items.{Valid, end}
 
 -- ## Lists of lists
@@ -36,7 +37,8 @@ pub names-append : (a b : List (List Member)) → names (a ++ b) ≡ names a ++ 
 unfolding names
 names-append a b = flat-append namesOf a b
 
-pub names-more : (members : List Member) (sets : List (List Member)) → names (members ∷ sets) ≡ namesOf members ++ names sets
+pub names-more :
+    (members : List Member) (sets : List (List Member)) → names (members ∷ sets) ≡ namesOf members ++ names sets
 unfolding names flatMap
 names-more members sets = refl
 
@@ -185,7 +187,8 @@ duration-none s (when-item w ∷ l) v h = duration-none (after s (when-item w)) 
 duration-none s (within-item n ∷ l) v h = absurd (omega (arith, within-last s n l (v .1)))
 
 pub duration-snoc-within :
-    (s : State) (l : List Item) (n : ℕ) → Valid s l → end s l .phase ≤ inWhens → durationIn (l ++ (within-item n ∷ [])) ≡ n
+    (s : State) (l : List Item) (n : ℕ) → Valid s l → end s l .phase ≤ inWhens
+    → durationIn (l ++ (within-item n ∷ [])) ≡ n
 unfolding Valid end durationIn
 duration-snoc-within s [] n v h = refl
 duration-snoc-within s (set-item t ∷ l) n v h = duration-snoc-within (after s (set-item t)) l n (v .1) h
@@ -304,15 +307,17 @@ unfolding Valid Next after
 sets-valid s [] p f g o = tt
 sets-valid s (t ∷ l) p f g o =
     let e : s .known ++ names (t ∷ l) ≡ (s .known ++ namesOf t) ++ names l =
-        rw names-more (sym (append-assoc (s .known) (namesOf t) (names l))) in
+    rw names-more (sym (append-assoc (s .known) (namesOf t) (names l))) in
     let o' : Once ((s .known ++ namesOf t) ++ names l) = rw e at o in
-    let r = sets-valid (after s (set-item t)) l in
-    (record {
-      phase = p;
-      some = f t (List·Memᴰ·head refl);
-      small = λ x m. g x (names-front t l m);
-      once = once-front (s .known ++ namesOf t) (names l) o';
-    }, r (omega arith) (λ u m. f u (List·Memᴰ·tail m)) (λ x m. g x (names-back t l m)) o')
+    let r = sets-valid (after s (set-item t)) l in (
+      record {
+        phase = p;
+        some = f t (List·Memᴰ·head refl);
+        small = λ x m. g x (names-front t l m);
+        once = once-front (s .known ++ namesOf t) (names l) o';
+      },
+      r (omega arith) (λ u m. f u (List·Memᴰ·tail m)) (λ x m. g x (names-back t l m)) o',
+    )
 
 whens-valid :
     (s : State) (l : List When) (n : ℕ) → Named s → ((w : When) → List·Memᴰ w l → WhenInOrder (s .known) w)
@@ -320,14 +325,15 @@ whens-valid :
 unfolding Valid Next after
 whens-valid s [] n p f = (p, tt)
 whens-valid s (w ∷ l) n p f =
-    let r = whens-valid (after s (when-item w)) l n in
-    ((p, f w (List·Memᴰ·head refl)), r (record { from = omega arith; upto = omega arith }) (λ k m. f k (List·Memᴰ·tail m)))
+    let r = whens-valid (after s (when-item w)) l n (record { from = omega arith; upto = omega arith }) in
+    ((p, f w (List·Memᴰ·head refl)), r (λ k m. f k (List·Memᴰ·tail m)))
 
 sets-named : (s : State) (l : List (List Member)) → ¬ (l ≡ []) → end s (map set-item l) .phase ≡ inSets
 unfolding end after
 sets-named s [] h = absurd (h refl)
 sets-named s (t ∷ []) h = refl
-sets-named s (t ∷ u ∷ l) h = sets-named (after s (set-item t)) (u ∷ l) (λ e. let z : _≡_ {A = ℕ} 0 1 = cc in omega arith)
+sets-named s (t ∷ u ∷ l) h =
+    sets-named (after s (set-item t)) (u ∷ l) (λ e. let z : _≡_ {A = ℕ} 0 1 = cc in omega arith)
 
 pub items-valid : (m : Making) → InOrder m → Valid start (itemsOf m)
 unfolding itemsOf
@@ -335,7 +341,7 @@ items-valid m o =
     let s = map set-item (m .sets) in
     let p = sets-named start (m .sets) (o .some) in
     let k : end start s .known ≡ names (m .sets) =
-        known-names s ∙ ap (λ (l : List (List Member)). names l) (sets-of-sets (m .sets)) in
+    known-names s ∙ ap (λ (l : List (List Member)). names l) (sets-of-sets (m .sets)) in
     valid-append start s (map when-item (m .whens) ++ (within-item (m .duration) ∷ []))
     (sets-valid start (m .sets) (omega arith) (o .none-empty) (o .small) (o .once))
     (whens-valid (end start s) (m .whens) (m .duration) (record { from = omega arith; upto = omega arith })
@@ -389,7 +395,8 @@ items-shape s (set-item t ∷ l) p v f =
     ap (λ (r : List Item). set-item t ∷ r) (items-shape (after s (set-item t)) l (omega arith) (v .1) f)
 items-shape s (when-item w ∷ l) p v f =
     let e = no-sets (after s (when-item w)) l (omega arith) (v .1) in
-    ap (λ (r : List (List Member)). map set-item r ++ (when-item w ∷ (map when-item (whensIn l) ++ (within-item (durationIn l) ∷ [])))) e
+    let whens = map when-item (whensIn l) ++ (within-item (durationIn l) ∷ []) in
+    ap (λ (r : List (List Member)). map set-item r ++ (when-item w ∷ whens)) e
     ∙ ap (λ (r : List Item). when-item w ∷ r) (whens-shape (after s (when-item w)) l refl (v .1) f)
 items-shape s (within-item n ∷ l) p v f =
     let e = nothing-behind (after s (within-item n)) l refl (v .1) in
@@ -454,14 +461,16 @@ whens-in-order s (within-item n ∷ l) v w m = whens-in-order (after s (within-i
 pub making-in :
     (l : List Item) → Valid start l → end start l .phase ≡ finished → InOrder (makingIn l) × (itemsOf (makingIn l) ≡ l)
 making-in l v f =
-    let n : ¬ (l ≡ []) = λ e. let k = subst (λ (l : List Item). end start l .phase ≡ finished) e f in never k in
-    (record {
-      some = sets-some l v n;
-      none-empty = sets-none-empty start l v;
-      small = sets-small start l v;
-      once = sets-once start l (unfold Once in tt) v;
-      conditions = whens-in-order start l v;
-    }, items-shape start l (omega arith) v f)
+    let n : ¬ (l ≡ []) = λ e. let k = subst (λ (l : List Item). end start l .phase ≡ finished) e f in never k in (
+      record {
+        some = sets-some l v n;
+        none-empty = sets-none-empty start l v;
+        small = sets-small start l v;
+        once = sets-once start l (unfold Once in tt) v;
+        conditions = whens-in-order start l v;
+      },
+      items-shape start l (omega arith) v f,
+    )
   where
     never : end start [] .phase ≡ finished → ⊥
     never k = unfold end in omega arith

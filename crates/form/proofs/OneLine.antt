@@ -1,12 +1,11 @@
 -- A line that may stand in a text: bytes without a line feed, and one line feed behind them; and one meaning for its
 -- bytes. Assumes nothing.
 use mathlib.Core.Path.{_≡_, refl, sym, ap, ap₂, _∙_, subst}
-use mathlib.Core.Logic.{_⊎_, inl, inr, ⊎-elim}
+use mathlib.Core.Logic.{⊎-elim}
 use mathlib.Core.Bool.{Bool, true, false, _&&_}
 use mathlib.Core.List.{List, [], _∷_, _++_, map, append-assoc, append-cancel-left}
-use mathlib.Core.List.{List·Memᴰ, List·Memᴰ·head, List·Memᴰ·tail, Memᴰ·append-left, Memᴰ·append-right, Memᴰ·cast}
-use mathlib.Core.List.{List·Memᴰ·append-cases, List·Memᴰ·cases-cons, List·Memᴰ·not-nil, List·Memᴰ·eq-of-singleton}
-use mathlib.Core.List.{Memᴰ·of-map, Memᴰ·map}
+use mathlib.Core.List.{List·Memᴰ, List·Memᴰ·head, List·Memᴰ·tail}
+use mathlib.Core.List.{List·Memᴰ·append-cases, List·Memᴰ·cases-cons, List·Memᴰ·not-nil}
 use Prim.Native.Nat.{ℕ, zero, suc, _+_, _≤_, _<_}
 use native.Mathlib.Omega.{arith}
 use borrow.Author.Tests.{eqb-true, ltb-true}
@@ -20,11 +19,11 @@ use Rattle.numbers.proofs.Every.{every-true}
 use Rattle.numbers.proofs.Value.{decimal-injective, decimal-digit}
 use Rattle.patterns.specs.Patterns.{lastAttribute, lastOperator}
 use Rattle.form.specs.Form.{Member, Side, Operand, constant, other, When, lineFeed, space, plus, minus, dot}
-use Rattle.form.specs.Form.{firstLetter, letters, setWord, whenWord, withinWord, attributeWords, operatorWords}
+use Rattle.form.specs.Form.{setWord, whenWord, withinWord, attributeWords, operatorWords}
 use Rattle.form.specs.Form.{attributeWord, operatorWord, memberWord, sideWord, integer, operandWord, spaced, line}
 use Rattle.form.specs.Form.{setLine, whenLine, withinLine, namesOf, IsLetter, SideInOrder, OperandInOrder}
 use Rattle.form.specs.Form.{WhenInOrder}
-use Rattle.form.specs.Items.{Item, set-item, when-item, within-item, itemLine, State, SetNext, Named, Next}
+use Rattle.form.specs.Items.{Item, set-item, when-item, within-item, itemLine, State, Next}
 use Rattle.form.proofs.Cancel.{Plain, AllPlain, words-same}
 
 -- the names known are letters
@@ -179,7 +178,12 @@ pub line-shape :
     (s : State) (i : Item) → Lettered s → Next s i
     → (bytes : List ℕ) × (¬ List·Memᴰ lineFeed bytes) × (itemLine i ≡ bytes ++ (lineFeed ∷ []))
 line-shape s i h n =
-    (firstOf i ++ spaced (wordsOf i), (λ m. ⊎-elim (first-no-feed i) (spaced-no-feed (wordsOf i) (words-plain s i h n)) (List·Memᴰ·append-cases (firstOf i) m)), line-of i ∙ sym (append-assoc (firstOf i) (spaced (wordsOf i)) (lineFeed ∷ [])))
+    let front = firstOf i in
+    let back = spaced (wordsOf i) in
+    let clear : ¬ List·Memᴰ lineFeed (front ++ back) =
+    λ m.
+    ⊎-elim (first-no-feed i) (spaced-no-feed (wordsOf i) (words-plain s i h n)) (List·Memᴰ·append-cases front m) in
+    (front ++ back, clear, line-of i ∙ sym (append-assoc front back (lineFeed ∷ [])))
 
 -- ## Words determine what they stand for
 
@@ -249,7 +253,9 @@ integer-no-dot : (z : ℤ) → ¬ List·Memᴰ dot (integer z)
 unfolding integer
 integer-no-dot (pos n) m = let h = decimal-digit n dot m .0 in omega arith
 integer-no-dot (negsuc n) m =
-    ⊎-elim (λ (e : dot ≡ minus). omega arith) (λ (k : List·Memᴰ dot (decimal (suc n))). let h = decimal-digit (suc n) dot k .0 in omega arith) (List·Memᴰ·cases-cons m)
+    ⊎-elim (λ (e : dot ≡ minus). omega arith)
+    (λ (k : List·Memᴰ dot (decimal (suc n))). let h = decimal-digit (suc n) dot k .0 in omega arith)
+    (List·Memᴰ·cases-cons m)
 
 side-dot : (s : Side) → List·Memᴰ dot (sideWord s)
 unfolding sideWord
@@ -261,7 +267,9 @@ integer-side z s e = integer-no-dot z (subst (λ (l : List ℕ). List·Memᴰ do
 -- no digit is a minus
 decimal-no-minus : (n : ℕ) (l : List ℕ) → decimal n ≡ minus ∷ l → ⊥
 decimal-no-minus n l e =
-    let h = decimal-digit n minus (subst (λ (l : List ℕ). List·Memᴰ minus l) (sym e) (List·Memᴰ·head refl)) .0 in omega arith
+    let m : List·Memᴰ minus (decimal n) = rw e (List·Memᴰ·head refl) in
+    let h = decimal-digit n minus m .0 in
+    omega arith
 
 integer-same : (a b : ℤ) → integer a ≡ integer b → a ≡ b
 unfolding integer
@@ -293,8 +301,10 @@ unfolding wordsOf
 when-same k l a b p q e =
     let left = side-same (a .left) (b .left) (p .left .small) (q .left .small) (cc) in
     let operator = operator-same (a .operator) (b .operator) (p .operator) (q .operator) (cc) in
-    let right = operand-same k l (a .left .attribute) (b .left .attribute) (a .right) (b .right) (p .right) (q .right) (cc) in
-    ap₂ (λ (s : Side) (o : ℕ). whenOf s o (a .right)) left operator ∙ ap (λ (r : Operand). whenOf (b .left) (b .operator) r) right
+    let right =
+    operand-same k l (a .left .attribute) (b .left .attribute) (a .right) (b .right) (p .right) (q .right) (cc) in
+    ap₂ (λ (s : Side) (o : ℕ). whenOf s o (a .right)) left operator
+    ∙ ap (λ (r : Operand). whenOf (b .left) (b .operator) r) right
 
 within-same : (a b : ℕ) → wordsOf (within-item a) ≡ wordsOf (within-item b) → a ≡ b
 unfolding wordsOf
@@ -309,8 +319,9 @@ module _ (s t : State) (f : Lettered s) (g : Lettered t) where
       let a = spaced (wordsOf i) ++ (lineFeed ∷ []) in
       let b = spaced (wordsOf j) ++ (lineFeed ∷ []) in
       let h : firstOf i ++ a ≡ firstOf i ++ b =
-          sym (line-of i) ∙ e ∙ line-of j ∙ ap (λ (l : List ℕ). l ++ b) (sym q) in
-      words-same (wordsOf i) (wordsOf j) [] [] (words-plain s i f n) (words-plain t j g k) (append-cancel-left (firstOf i) a b h)
+      sym (line-of i) ∙ e ∙ line-of j ∙ ap (λ (l : List ℕ). l ++ b) (sym q) in
+      words-same (wordsOf i) (wordsOf j) [] [] (words-plain s i f n) (words-plain t j g k)
+      (append-cancel-left (firstOf i) a b h)
       .0
 
   pub line-same : (i j : Item) → Next s i → Next t j → itemLine i ≡ itemLine j → i ≡ j
@@ -331,7 +342,8 @@ module _ (s t : State) (f : Lettered s) (g : Lettered t) where
       absurd (omega arith)
   line-same (when-item a) (when-item b) n k e =
       ap when-item
-      (unfold Next in when-same (s .known) (t .known) a b (n .1) (k .1) (words-of-same (when-item a) (when-item b) n k refl e))
+      (unfold Next in
+      when-same (s .known) (t .known) a b (n .1) (k .1) (words-of-same (when-item a) (when-item b) n k refl e))
   line-same (when-item a) (within-item b) n k e =
       let h = sym (line-of (when-item a)) ∙ e ∙ line-of (within-item b) in
       let z : _≡_ {A = ℕ} 104 105 = cc in

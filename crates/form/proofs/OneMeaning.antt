@@ -1,14 +1,15 @@
 -- Lines in order that begin with the same bytes are the same, and a text has one meaning. Assumes nothing.
 use mathlib.Core.Path.{_≡_, refl, sym, ap, ap₂, _∙_, subst}
-use mathlib.Core.Logic.{_⊎_, inl, inr, ⊎-elim}
+use mathlib.Core.Logic.{⊎-elim}
 use mathlib.Core.List.{List, [], _∷_, _++_, flatMap, append-assoc, append-nil}
 use mathlib.Core.List.{List·Memᴰ, List·Memᴰ·append-cases, List·Memᴰ·not-nil}
-use Prim.Native.Nat.{ℕ, zero, suc, _≤_, _<_}
+use Prim.Native.Nat.{ℕ, _≤_}
 use native.Mathlib.Omega.{arith}
 use lib.ListN.{length}
 use Rattle.numbers.proofs.Cases.{by-order}
-use Rattle.form.specs.Form.{Member, When, Making, lineFeed, textOf, namesOf, InOrder}
-use Rattle.form.specs.Items.{Item, set-item, when-item, within-item, itemLine, itemsOf, setsIn, whensIn, durationIn}
+use Rattle.form.specs.Form.{Member, When, Making, lineFeed, textOf, InOrder}
+use Rattle.form.specs.Items.{Item, set-item, when-item, within-item, itemLine, itemsOf}
+use Rattle.form.specs.Items.{setsIn, whensIn, durationIn}
 use Rattle.form.specs.Items.{State, start, Next, after, Valid, end}
 use Rattle.form.proofs.Cancel.{cut-same}
 use Rattle.form.proofs.Making.{text-items, items-valid, valid-back, sets-items, whens-items, duration-items}
@@ -59,7 +60,9 @@ same-line s i j x y f n k e =
     let c = cut-same lineFeed (a .0) (b .0) x y (a .1) (b .1) (sym (a .3) ∙ e ∙ b .3) in
     (line-same s s f f i j n k (a .2 ∙ ap (λ (l : List ℕ). l ++ (lineFeed ∷ [])) (c .0) ∙ sym (b .2)), c .1)
 
-pub lines-more : (i : Item) (l : List Item) (x : List ℕ) → flatMap itemLine (i ∷ l) ++ x ≡ itemLine i ++ (flatMap itemLine l ++ x)
+pub lines-more :
+    (i : Item) (l : List Item) (x : List ℕ)
+    → flatMap itemLine (i ∷ l) ++ x ≡ itemLine i ++ (flatMap itemLine l ++ x)
 unfolding flatMap
 lines-more i l x = append-assoc (itemLine i) (flatMap itemLine l) x
 
@@ -73,15 +76,17 @@ follow s [] k x y f v w e h = (k, refl, unfold flatMap in e)
 follow s (i ∷ l) [] x y f v w e h = absurd (omega arith)
 follow s (i ∷ l) (j ∷ k) x y f v w e h =
     let c =
-        same-line s i j (flatMap itemLine l ++ x) (flatMap itemLine k ++ y) f (v .0) (w .0)
-        (sym (lines-more i l x) ∙ e ∙ lines-more j k y) in
+    same-line s i j (flatMap itemLine l ++ x) (flatMap itemLine k ++ y) f (v .0) (w .0)
+    (sym (lines-more i l x) ∙ e ∙ lines-more j k y) in
     let w' = subst (λ (j : Item). Valid (after s j) k) (sym (c .0)) (w .1) in
     let r = follow (after s i) l k x y (lettered-after s i f (v .0)) (v .1) w' (c .1) (omega arith) in
     let p = c .0 in
     let q = r .1 in
     (r .0, (cc), r .2)
 
-pub no-lines : (s : State) (l : List Item) (x : List ℕ) → Lettered s → Valid s l → [] ≡ flatMap itemLine l ++ x → (l ≡ []) × (x ≡ [])
+pub no-lines :
+    (s : State) (l : List Item) (x : List ℕ) → Lettered s → Valid s l → [] ≡ flatMap itemLine l ++ x
+    → (l ≡ []) × (x ≡ [])
 unfolding Valid
 no-lines s [] x f v e = (refl, unfold flatMap in sym e)
 no-lines s (i ∷ l) x f v e = absurd (line-some s i (flatMap itemLine l ++ x) f (v .0) (e ∙ lines-more i l x))
@@ -89,7 +94,8 @@ no-lines s (i ∷ l) x f v e = absurd (line-some s i (flatMap itemLine l ++ x) f
 -- ## One meaning
 
 items-shorter :
-    (l k : List Item) → Valid start l → Valid start k → flatMap itemLine l ≡ flatMap itemLine k → length l ≤ length k → l ≡ k
+    (l k : List Item) → Valid start l → Valid start k → flatMap itemLine l ≡ flatMap itemLine k → length l ≤ length k
+    → l ≡ k
 items-shorter l k v w e h =
     let a = append-nil (flatMap itemLine l) in
     let b = append-nil (flatMap itemLine k) in

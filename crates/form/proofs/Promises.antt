@@ -1,5 +1,5 @@
 -- The promise of the reader fixes its answer and every byte that it leaves. Assumes nothing.
-use mathlib.Core.Path.{_≡_, refl, sym, ap, _∙_, subst}
+use mathlib.Core.Path.{_≡_, sym, ap, _∙_, subst}
 use mathlib.Core.List.{List, _++_}
 use Prim.Native.Nat.{ℕ, _-_, _≤_, _<_, min}
 use native.Mathlib.Omega.{arith}
@@ -7,7 +7,7 @@ use lib.ListN.{length, replicate}
 use Rattle.records.specs.declared.Answer.{Answer}
 use Rattle.records.specs.Blocks.{refused}
 use Rattle.patterns.specs.Checked.{patternAnswer}
-use Rattle.form.specs.Form.{Making, InOrder, InForm}
+use Rattle.form.specs.Form.{Making, InForm}
 use Rattle.form.specs.Lines.{FirstBad}
 use Rattle.form.specs.Packed.{patternBytes, Fits}
 use Rattle.form.specs.Promises.{written, mostPlace, ReadPromise}
@@ -28,7 +28,8 @@ pub record Formed (m : Making) (lent : ℕ) (answer : Answer) (after : List ℕ)
       Fits m → patternAnswer (patternBytes m) .code ≡ 3
       → Refused lent 3 (patternAnswer (patternBytes m) .place) answer after
   pub short :
-      Fits m → patternAnswer (patternBytes m) .code ≡ 0 → lent < length (patternBytes m) → Refused lent 12 0 answer after
+      Fits m → patternAnswer (patternBytes m) .code ≡ 0 → lent < length (patternBytes m)
+      → Refused lent 12 0 answer after
   pub good :
       Fits m → patternAnswer (patternBytes m) .code ≡ 0 → length (patternBytes m) ≤ lent
       → (answer ≡ written (length (patternBytes m)))
@@ -92,4 +93,5 @@ read-promise-one text lent a b x y (ReadPromise.too-large m f n e z) q = meet e 
 read-promise-one text lent a b x y (ReadPromise.bad-set m f i s e z) q = meet e z (formed text lent b y q m f .set i s)
 read-promise-one text lent a b x y (ReadPromise.no-room m f i s r e z) q =
     meet e z (formed text lent b y q m f .short i s r)
-read-promise-one text lent a b x y (ReadPromise.read m f i s r e z) q = meet e z (formed text lent b y q m f .good i s r)
+read-promise-one text lent a b x y (ReadPromise.read m f i s r e z) q =
+    meet e z (formed text lent b y q m f .good i s r)

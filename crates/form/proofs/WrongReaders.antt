@@ -1,29 +1,31 @@
--- Readers that the promise shuts out: one that refuses all, one that takes a number with a 0 in front, and one that does
--- without the last line feed. Text is a list of ASCII codes. Assumes nothing.
-use mathlib.Core.Path.{_≡_, refl, sym, ap, _∙_, subst}
+-- Readers that the promise shuts out: one that refuses all, one that takes a number with a 0 in front, and one that
+-- does without the last line feed. Text is a list of ASCII codes. Assumes nothing.
+use mathlib.Core.Path.{_≡_, refl, sym, ap, _∙_}
 use mathlib.Core.Logic.{⊎-elim}
-use mathlib.Core.Bool.{Bool, true, false, _||_}
+use mathlib.Core.Bool.{Bool, false, _||_}
 use mathlib.Core.List.{List, [], _∷_, _++_, flatMap}
 use mathlib.Core.List.{List·Memᴰ, List·Memᴰ·not-nil, List·Memᴰ·cases-cons}
-use Prim.Native.Nat.{ℕ, suc, _≤_, _<_}
+use Prim.Native.Nat.{ℕ, _≤_, _<_}
 use native.Mathlib.Omega.{arith}
 use borrow.Author.Tests.{eqb-false}
 use lib.Dec.{eqb}
-use lib.IntN.{ℤ, pos, negsuc}
-use lib.ListN.{length, replicate}
+use lib.IntN.{pos, negsuc}
+use lib.ListN.{length}
 use Rattle.numbers.specs.Numbers.{number, first, firstFrom, count}
 use Rattle.numbers.specs.Bytes.{wordBytes}
 use Rattle.numbers.specs.Decimal.{decimal, digits}
 use Rattle.numbers.proofs.Cases.{neither}
 use Rattle.numbers.proofs.Value.{decimal-no-zero}
 use Rattle.records.specs.declared.Answer.{Answer}
-use Rattle.patterns.specs.Patterns.{header, headerBroken, setNumber, variableZero, leastSet, greatestSet, variableBroken}
+use Rattle.patterns.specs.Patterns.{header, headerBroken, setNumber, variableZero, leastSet, greatestSet}
+use Rattle.patterns.specs.Patterns.{variableBroken}
 use Rattle.patterns.specs.Checked.{firstBadVariable, firstBadCondition, patternAnswer}
-use Rattle.form.specs.Form.{Member, Side, Operand, constant, other, When, Making, lineFeed, dot, minus, names, line}
-use Rattle.form.specs.Form.{memberWord, sideWord, integer, operandWord, spaced, setLine, withinLine, textOf, InForm}
+use Rattle.form.specs.Form.{Operand, constant, other, lineFeed, dot, minus, names, line}
+use Rattle.form.specs.Form.{memberWord, sideWord, integer, operandWord, spaced, setLine, withinLine, textOf}
+use Rattle.form.specs.Form.{InForm}
 use Rattle.form.specs.Lines.{FirstBad}
 use Rattle.form.specs.Packed.{headerBits, memberByte, memberBytes, patternBytes, Fits}
-use Rattle.form.specs.Promises.{written, ReadPromise}
+use Rattle.form.specs.Promises.{ReadPromise}
 use Rattle.form.specs.Items.{Item, set-item, when-item, within-item, itemLine, setsIn, whensIn, durationIn}
 use Rattle.form.specs.Items.{start, finished, Next, after, Valid, end}
 use Rattle.form.proofs.Cancel.{words-same}
@@ -53,6 +55,7 @@ shortest-form = record { bytes = bytes; order = making-in shortest shortest-vali
     bytes =
         unfold shortest setsIn whensIn durationIn textOf setLine withinLine line spaced memberWord decimal digits flatMap in
         refl
+
     ended : end start shortest .phase ≡ finished
     ended = unfold shortest end after in refl
 
@@ -76,7 +79,8 @@ module _ (lent : ℕ) (answer : Answer) (after : List ℕ) where
       let c : patternAnswer (patternBytes (makingIn shortest)) .code ≡ 0 = rw e shortest-accepted in
       let n : length (patternBytes (makingIn shortest)) ≡ 9 = rw e refl in
       let r =
-          formed shortestText lent answer after p (makingIn shortest) shortest-form .good shortest-fits c (omega arith) .0 in
+      formed shortestText lent answer after p (makingIn shortest) shortest-form .good shortest-fits c (omega arith) .0
+      in
       (ap (λ (a : Answer). a .code) r, ap (λ (a : Answer). a .used) r ∙ n)
 
 -- ## What a text may not have

@@ -9,6 +9,7 @@ ghost use Rattle.patterns.specs.Patterns.{mostVariables, mostConditions};
 ghost use Rattle.form.specs.Packed.{headerBits};
 ghost use Rattle.form.specs.Promises.{ReadPromise, WritePromise, written, mostPlace};
 ghost use Rattle.drafts.specs.Drafts.{Small};
+ghost use Rattle.text.specs.LineEnds.{LineEnd};
 ghost use Rattle.text.specs.Texts.{TextRead, draftBytes};
 ghost use Rattle.text.specs.Fitting.{DraftFits, Measured};
 use drafts::Draft;
@@ -25,7 +26,10 @@ pub struct Reading {
 }
 
 // The first line feed from a place on, or the end.
-fn line_end(text: &[u8], from: usize) -> usize {
+fn line_end(text: &[u8], from: usize) -> usize
+    requires { ⌜ from ≤ length (now text) ⌝ }
+    ensures { λ r. ⌜ LineEnd (now (text .entry)) from r ⌝ }
+{
     let mut at = from;
     while at < text.len() {
         if text[at] == b'\n' {
