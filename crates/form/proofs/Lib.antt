@@ -16,3 +16,4 @@ pub mod Sizes
 pub mod Judged
 pub mod OneNames
 pub mod OneWritten
+pub mod RoundTrip
