@@ -1,1 +1,5 @@
 pub mod Lists
+pub mod Places
+pub mod Holding
+pub mod History
+pub mod Read
