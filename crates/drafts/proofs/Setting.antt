@@ -1,14 +1,14 @@
 -- A set line read name by name. Assumes nothing.
 use mathlib.Core.Path.{_≡_, _∙_, refl, sym, ap, subst}
-use mathlib.Core.Bool.{Bool, true, false}
+use mathlib.Core.Bool.{Bool, true, false, true≢false}
 use mathlib.Core.Logic.{⊎-elim}
 use mathlib.Core.List.{List, [], _∷_, _++_, map, append-assoc, append-nil, map-append}
 use mathlib.Core.List.{List·Memᴰ, List·Memᴰ·head, List·Memᴰ·tail, List·Memᴰ·cases-cons, List·Memᴰ·not-nil}
 use mathlib.Core.List.{List·Memᴰ·append-cases, List·Memᴰ·eq-of-singleton, Memᴰ·append-right, Memᴰ·map}
 use Prim.Native.Nat.{ℕ, zero, suc, _+_, _-_, _≤_, _<_, min}
 use native.Mathlib.Omega.{arith}
-use lib.ListN.{length, getD, drop, length-drop, drop-of-length-le}
-use lib.Seq.{drop-drop}
+use lib.ListN.{length, getD, take, drop, length-append, length-drop, drop-of-length-le}
+use lib.Seq.{drop-drop, take-all}
 use Rattle.words.specs.Words.{large}
 use Rattle.form.specs.Form.{Member, space, plus, setWord, firstLetter, memberWord, spaced, namesOf, names, IsLetter, Once}
 use Rattle.form.specs.Items.{Item, set-item, setsIn, whensIn, durationIn, State, start, inSets, Valid, after, end}
@@ -18,7 +18,7 @@ use Rattle.drafts.specs.declared.Piece.{Piece}
 use Rattle.drafts.specs.Drafts.{placesOf, Small, Holds, DraftOf, LineRead}
 use Rattle.drafts.specs.Steps.{PieceOf, found, none, memberIn, refused, withSet, withMember, MemberTaken, again, new}
 use Rattle.drafts.proofs.Places.{named-place, place-named}
-use Rattle.drafts.proofs.Holding.{names-last, holds-set, holds-member, small-member}
+use Rattle.drafts.proofs.Holding.{names-last, holds-set, holds-member, small-member, small-refused}
 use Rattle.drafts.proofs.History.{whens-none, known-once}
 use Rattle.drafts.proofs.Pieces.{first-same}
 use Rattle.drafts.proofs.Read.{set-good, set-bad}
@@ -268,3 +268,74 @@ ended l line at q v some h g =
       phase = g .phase ∙ sym (set-phase l (g .members));
       duration = rw (duration-snoc-set l (g .members)) (g .duration);
     })
+
+-- ## A turn of the reading
+
+-- what is left of a line, as a part of it
+pub left-part :
+    (line : List ℕ) (at : ℕ) (piece : Piece) → PieceOf (take (length line - at) (drop at line)) piece
+    → PieceOf (drop at line) piece
+left-part line at piece p = rw (take-all (length line - at) (drop at line) (omega (arith, length-drop at line))) at p
+
+module _ (line : List ℕ) (at : ℕ) (piece : Piece) where
+  pub piece-letter : ¬ (piece .size ≡ 0) → PieceOf (drop at line) piece → IsLetter (piece .name)
+  piece-letter n (found letter size e p) = letter
+  piece-letter n (none z f) = absurd (n z)
+
+  pub piece-size :
+      ¬ (piece .size ≡ 0) → at < length line → PieceOf (drop at line) piece
+      → (1 ≤ piece .size) × (at + piece .size ≤ length line)
+  piece-size n h (found letter size e p) =
+      (omega arith, omega (arith, ap length e, length-append (memberWord (memberIn piece)) (drop (piece .size) (drop at line)), length-drop at line))
+  piece-size n h (none z f) = absurd (n z)
+
+  pub no-name :
+      (l : List Item) (q r : Draft) → at < length line → piece .size ≡ 0 → r .bad ≡ true → PieceOf (drop at line) piece
+      → Progress l line at q
+      → LineRead l (setWord ++ line) r
+  no-name l q r h z b (found letter size e p) g = absurd (omega arith)
+  no-name l q r h z b (none y f) g = stuck l line at q r h f b g
+
+  module _ (q r : Draft) (n : ¬ (piece .size ≡ 0)) where
+    pub small-taken :
+        Small q → PieceOf (drop at line) piece → MemberTaken q (piece .name) (piece .group) r → Small r
+    small-taken s p (again a e) = subst Small (sym e) (small-refused q s)
+    small-taken s p (new a e) =
+        subst Small (sym e) (small-member q (piece .name) (piece .group) (piece-letter n p) s)
+
+    pub name-taken :
+        (l : List Item) → at < length line → r .bad ≡ true → PieceOf (drop at line) piece
+        → MemberTaken q (piece .name) (piece .group) r
+        → Progress l line at q
+        → LineRead l (setWord ++ line) r
+    name-taken l h b (found letter size e p) (again a f) g = repeated l line at q r piece h letter e p a b g
+    name-taken l h b (found letter size e p) (new a f) g =
+        absurd (true≢false (sym b ∙ ap (λ (d : Draft). d .bad) f ∙ g .good))
+    name-taken l h b (none z f) t g = absurd (n z)
+
+    pub name-new :
+        (l : List Item) → Valid start l → Small q → at < length line → r .bad ≡ false → PieceOf (drop at line) piece
+        → MemberTaken q (piece .name) (piece .group) r
+        → Progress l line at q
+        → Progress l line (at + piece .size) r
+    name-new l v s h b (found letter size e p) (again a f) g =
+        absurd (true≢false (sym (ap (λ (d : Draft). d .bad) f) ∙ b))
+    name-new l v s h b (found letter size e p) (new a f) g =
+        subst (Progress l line (at + piece .size)) (sym f) (turned l line at q piece v s h letter e p a g)
+    name-new l v s h b (none z f) t g = absurd (n z)
+
+-- no set line may follow, or the line has no bytes behind its first word
+pub too-late :
+    (l : List Item) (line : List ℕ) (d r : Draft) → inSets < d .phase → r .bad ≡ true → DraftOf l d
+    → LineRead l (setWord ++ line) r
+too-late l line d r h b g = set-bad l line r (λ members n e. omega (arith, n .phase, g .phase)) b
+
+pub no-names :
+    (l : List Item) (line : List ℕ) (r : Draft) → length line ≡ 0 → r .bad ≡ true → LineRead l (setWord ++ line) r
+no-names l line r z b = set-bad l line r (λ members n e. none-spaced line members z (n .some) e) b
+  where
+    none-spaced :
+        (line : List ℕ) (members : List Member) → length line ≡ 0 → ¬ (members ≡ [])
+        → ¬ (spaced (map memberWord members) ≡ line)
+    none-spaced line [] z n e = n refl
+    none-spaced line (m ∷ members) z n e = unfold spaced in (omega (arith, ap length e))
