@@ -5,3 +5,5 @@ pub mod History
 pub mod Read
 pub mod Pieces
 pub mod Setting
+pub mod Split
+pub mod Conditions

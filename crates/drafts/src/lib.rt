@@ -327,7 +327,7 @@ fn comparison(places: &[u8; 26], left: words::Sided, line: &[u8]) -> Coded
         return no_code();
     }
     let operator = words::operator_of(&line[..end]);
-    if operator == words::OPERATORS {
+    if words::OPERATORS <= operator {
         return no_code();
     }
     let next = end + 1;
