@@ -7,3 +7,4 @@ pub mod Pieces
 pub mod Setting
 pub mod Split
 pub mod Conditions
+pub mod Behind
