@@ -1,14 +1,16 @@
 -- A when line and the within line behind other lines, and a draft of no lines. Assumes nothing.
 use mathlib.Core.Path.{_≡_, _∙_, refl, sym, ap, subst}
 use mathlib.Core.Bool.{Bool, true, false, true≢false}
-use mathlib.Core.List.{List, [], _∷_, _++_, List·Memᴰ}
+use mathlib.Core.List.{List, [], _∷_, _++_, flatMap, List·Memᴰ}
 use Prim.Native.Nat.{ℕ, _+_, _-_, _*_, _^_, _≤_, _<_, min}
 use native.Mathlib.Omega.{arith}
-use lib.ListN.{length, getD, replicate, length-replicate}
+use lib.ListN.{length, getD, replicate, length-replicate, getD-replicate, List·getD-eq-default}
+use Rattle.numbers.specs.Numbers.{upto}
+use Rattle.numbers.proofs.Cases.{by-order}
 use Rattle.patterns.specs.Patterns.{mostVariables, mostConditions, lastAttribute, lastOperator}
 use Rattle.form.specs.Form.{Side, Operand, constant, other, When, space, whenWord, withinWord, names, IsLetter}
 use Rattle.form.specs.Form.{SideInOrder, OperandInOrder, WhenInOrder}
-use Rattle.form.specs.Packed.{placeOf, bitsOf, conditionIn, conditionBits, whenBits}
+use Rattle.form.specs.Packed.{placeOf, memberBytes, conditionIn, conditionBits, whenBits}
 use Rattle.form.specs.Items.{Item, when-item, within-item, setsIn, whensIn, durationIn, State, start, inSets, inWhens}
 use Rattle.form.specs.Items.{finished, Named, Valid, after, end}
 use Rattle.form.proofs.Making.{sets-snoc-when, sets-snoc-within, whens-snoc-when, whens-snoc-within, duration-snoc-when}
@@ -170,3 +172,56 @@ module _ (l : List Item) (line : List ℕ) (d : Draft) (h : DraftOf l d) (t : Bo
         phase = sym (within-phase l m);
         duration = rw (duration-snoc-within start l m v (named .upto)) w;
       })
+
+-- ## No lines yet
+
+-- nothing told
+abbrev blankDraft : Draft
+blankDraft =
+    record {
+      places = replicate 26 0;
+      variables = replicate 12 0;
+      conditions = replicate 32 0;
+      n = 0;
+      set = 0;
+      c = 0;
+      phase = 0;
+      bad = false;
+      duration = 0;
+    }
+
+zeros-at : (n k d : ℕ) → d ≡ 0 → getD (replicate n d) k d ≡ 0
+zeros-at n k d z =
+    by-order k n
+    (λ h. getD-replicate n k d d h ∙ z)
+    (λ h. List·getD-eq-default (replicate n d) d (omega (arith, length-replicate n d)) ∙ z)
+
+pub blank-small : Small blankDraft
+blank-small =
+    record {
+      n = omega arith;
+      set = omega arith;
+      c = omega arith;
+      places = λ k. omega (arith, zeros-at 26 k 0 refl);
+      letters = refl;
+      variables = refl;
+      conditions = refl;
+    }
+
+pub blank-told : DraftOf [] blankDraft
+unfolding setsIn whensIn durationIn end names flatMap placesOf placeOf upto memberBytes
+blank-told =
+    record {
+      good = refl;
+      holds =
+        record {
+          n = refl;
+          set = refl;
+          c = refl;
+          places = refl;
+          variables = λ h. refl;
+          conditions = λ h k. refl;
+        };
+      phase = refl;
+      duration = refl;
+    }

@@ -1,9 +1,11 @@
 -- A line by its first word: what its other bytes decide. Assumes nothing.
-use mathlib.Core.Path.{_≡_, _∙_, sym, ap}
+use mathlib.Core.Path.{_≡_, _∙_, sym, ap, subst}
 use mathlib.Core.Bool.{Bool, true, false}
 use mathlib.Core.List.{List, [], _∷_, _++_, map, append-assoc, append-nil, append-cancel-left, append-cancel-right}
-use Prim.Native.Nat.{ℕ, _≤_}
+use Prim.Native.Nat.{ℕ, _-_, _≤_}
 use native.Mathlib.Omega.{arith}
+use lib.ListN.{length, take, drop, length-drop}
+use lib.Seq.{take-all}
 use Rattle.numbers.specs.Decimal.{decimal}
 use Rattle.form.specs.Form.{Member, When, lineFeed, space, setWord, whenWord, withinWord, memberWord, sideWord}
 use Rattle.form.specs.Form.{operatorWord, operandWord, spaced, line, setLine, whenLine, withinLine, WhenInOrder}
@@ -159,3 +161,14 @@ pub line-bad :
     → r .bad ≡ true
     → LineRead l bytes r
 line-bad l bytes r a b c e = bad (outside (end start l) bytes a b c) e
+
+-- a line as its first word and the part behind it
+pub line-part :
+    (l : List Item) (bytes word : List ℕ) (r : Draft) → bytes ≡ word ++ drop (length word) bytes
+    → LineRead l (word ++ take (length bytes - length word) (drop (length word) bytes)) r
+    → LineRead l bytes r
+line-part l bytes word r e h =
+    let n = length word in
+    let p : take (length bytes - n) (drop n bytes) ≡ drop n bytes =
+        take-all (length bytes - n) (drop n bytes) (omega (arith, length-drop n bytes)) in
+    subst (λ (b : List ℕ). LineRead l b r) (ap (λ (t : List ℕ). word ++ t) p ∙ sym e) h
