@@ -2,24 +2,24 @@
 use mathlib.Core.Path.{_≡_, _∙_, refl, sym, ap, subst}
 use mathlib.Core.Bool.{Bool, true, false, true≢false}
 use mathlib.Core.List.{List, [], _∷_, _++_, flatMap, List·Memᴰ}
-use Prim.Native.Nat.{ℕ, _+_, _-_, _*_, _^_, _≤_, _<_, min}
+use Prim.Native.Nat.{ℕ, _+_, _-_, _≤_}
 use native.Mathlib.Omega.{arith}
 use lib.ListN.{length, getD, replicate, length-replicate, getD-replicate, List·getD-eq-default}
 use Rattle.numbers.specs.Numbers.{upto}
 use Rattle.numbers.proofs.Cases.{by-order}
-use Rattle.patterns.specs.Patterns.{mostVariables, mostConditions, lastAttribute, lastOperator}
+use Rattle.patterns.specs.Patterns.{mostVariables}
 use Rattle.form.specs.Form.{Side, Operand, constant, other, When, space, whenWord, withinWord, names, IsLetter}
 use Rattle.form.specs.Form.{SideInOrder, OperandInOrder, WhenInOrder}
 use Rattle.form.specs.Packed.{placeOf, memberBytes, conditionIn, conditionBits, whenBits}
-use Rattle.form.specs.Items.{Item, when-item, within-item, setsIn, whensIn, durationIn, State, start, inSets, inWhens}
+use Rattle.form.specs.Items.{Item, when-item, within-item, setsIn, whensIn, durationIn, State, start, inWhens}
 use Rattle.form.specs.Items.{finished, Named, Valid, after, end}
 use Rattle.form.proofs.Making.{sets-snoc-when, sets-snoc-within, whens-snoc-when, whens-snoc-within, duration-snoc-when}
 use Rattle.form.proofs.Making.{duration-snoc-within, end-snoc, known-names}
 use Rattle.words.specs.declared.Digits.{Digits}
-use Rattle.words.specs.Words.{large, placeIn, SideKnown, NaturalOf}
+use Rattle.words.specs.Words.{placeIn, SideKnown, NaturalOf}
 use Rattle.drafts.specs.declared.Draft.{Draft}
 use Rattle.drafts.specs.declared.Coded.{Coded}
-use Rattle.drafts.specs.Drafts.{manyVariables, placesOf, Small, Holds, DraftOf, LineRead}
+use Rattle.drafts.specs.Drafts.{placesOf, Small, DraftOf, LineRead}
 use Rattle.drafts.specs.Steps.{NamedTest, OperandKnown, operandBits, codeOf, WhenKnown, ConditionOf}
 use Rattle.drafts.specs.Steps.{withCondition, withDuration}
 use Rattle.drafts.proofs.Places.{named-place, place-named, place-whole}
@@ -51,7 +51,7 @@ module _ (known : List ℕ) where
       (left : Side) (operator : ℕ) (right : Operand) → length known ≤ mostVariables → SideKnown (placesOf known) left
       → OperandKnown (placesOf known) (left .attribute) right
       → codeOf (placesOf known) (placeIn (placesOf known) (left .name)) (left .attribute) operator right
-        ≡ conditionBits (conditionIn known left operator right)
+      ≡ conditionBits (conditionIn known left operator right)
   unfolding OperandKnown operandBits conditionBits conditionIn
   code-bits left operator (constant z) few k r =
       let e = place-whole known (left .name) (k .letter) (omega arith) in
@@ -64,7 +64,7 @@ module _ (known : List ℕ) where
   when-bits :
       (w : When) → length known ≤ mostVariables → WhenKnown (placesOf known) w
       → codeOf (placesOf known) (placeIn (placesOf known) (w .left .name)) (w .left .attribute) (w .operator) (w .right)
-        ≡ whenBits known w
+      ≡ whenBits known w
   unfolding whenBits
   when-bits w few k = code-bits (w .left) (w .operator) (w .right) few (k .left) (k .right)
 
@@ -98,12 +98,14 @@ within-phase : (l : List Item) (n : ℕ) → end start (l ++ (within-item n ∷ 
 unfolding after
 within-phase l n = ap (λ (s : State). s .phase) (end-snoc start l (within-item n))
 
-named-in : (l : List Item) (d : Draft) (t : Bool) → DraftOf l d → NamedTest (d .phase) t → t ≡ true → Named (end start l)
+named-in :
+    (l : List Item) (d : Draft) (t : Bool) → DraftOf l d → NamedTest (d .phase) t → t ≡ true → Named (end start l)
 named-in l d t h n e =
     let r = n .so e in
     record { from = omega (arith, h .phase); upto = omega (arith, h .phase) }
 
-not-named : (l : List Item) (d : Draft) (t : Bool) → DraftOf l d → NamedTest (d .phase) t → t ≡ false → ¬ Named (end start l)
+not-named :
+    (l : List Item) (d : Draft) (t : Bool) → DraftOf l d → NamedTest (d .phase) t → t ≡ false → ¬ Named (end start l)
 not-named l d t h n e m =
     n .not-so e (omega (arith, h .phase, m .from)) (omega (arith, h .phase, m .upto))
 
@@ -140,12 +142,12 @@ module _ (l : List Item) (line : List ℕ) (d : Draft) (h : DraftOf l d) (t : Bo
       (record {
         good = h .good;
         holds =
-          rw (sets-snoc-when l w, whens-snoc-when l w)
-          (holds-condition (setsIn l) (whensIn l) w d (code .bits) s (h .holds)
-          (λ few.
-          b
-          ∙ ap (λ (p : List ℕ). codeOf p (placeIn p (w .left .name)) (w .left .attribute) (w .operator) (w .right)) p
-          ∙ when-bits known w few j));
+            rw (sets-snoc-when l w, whens-snoc-when l w)
+            (holds-condition (setsIn l) (whensIn l) w d (code .bits) s (h .holds)
+            (λ few.
+            b
+            ∙ ap (λ (p : List ℕ). codeOf p (placeIn p (w .left .name)) (w .left .attribute) (w .operator) (w .right)) p
+            ∙ when-bits known w few j));
         phase = sym (when-phase l w);
         duration = rw (duration-snoc-when l w) (h .duration);
       })
@@ -168,7 +170,7 @@ module _ (l : List Item) (line : List ℕ) (d : Draft) (h : DraftOf l d) (t : Bo
       (record {
         good = h .good;
         holds =
-          rw (sets-snoc-within l m, whens-snoc-within l m) (holds-same (setsIn l) (whensIn l) d (k .value) (h .holds));
+            rw (sets-snoc-within l m, whens-snoc-within l m) (holds-same (setsIn l) (whensIn l) d (k .value) (h .holds));
         phase = sym (within-phase l m);
         duration = rw (duration-snoc-within start l m v (named .upto)) w;
       })
@@ -214,14 +216,14 @@ blank-told =
     record {
       good = refl;
       holds =
-        record {
-          n = refl;
-          set = refl;
-          c = refl;
-          places = refl;
-          variables = λ h. refl;
-          conditions = λ h k. refl;
-        };
+          record {
+            n = refl;
+            set = refl;
+            c = refl;
+            places = refl;
+            variables = λ h. refl;
+            conditions = λ h k. refl;
+          };
       phase = refl;
       duration = refl;
     }

@@ -1,24 +1,24 @@
 -- A condition's words read, the last first. Assumes nothing.
 use mathlib.Core.Path.{_≡_, _∙_, refl, sym, ap, subst}
-use mathlib.Core.Bool.{Bool, true, false, true≢false}
-use mathlib.Core.List.{List, [], _∷_, _++_}
+use mathlib.Core.Bool.{true, false, true≢false}
+use mathlib.Core.List.{List, _∷_, _++_}
 use Prim.Native.Nat.{ℕ, _+_, _-_, _*_, _^_, _≤_, _<_}
 use native.Mathlib.Omega.{arith}
-use lib.ListN.{length, getD, take, drop}
-use Rattle.patterns.specs.Patterns.{lastAttribute, lastOperator}
-use Rattle.form.specs.Form.{Side, Operand, constant, other, When, space, firstLetter, operatorWords, operatorWord}
+use lib.ListN.{length, take, drop}
+use Rattle.patterns.specs.Patterns.{lastOperator}
+use Rattle.form.specs.Form.{Operand, constant, other, When, space, firstLetter, operatorWords, operatorWord}
 use Rattle.form.specs.Form.{sideWord, operandWord}
 use Rattle.words.specs.declared.Sided.{Sided}
 use Rattle.words.specs.declared.Bits32.{Bits32}
-use Rattle.words.specs.Words.{placeIn, SideKnown, SideOf, ConstantOf, RowOf}
+use Rattle.words.specs.Words.{SideOf, ConstantOf, RowOf}
 use Rattle.drafts.specs.declared.Coded.{Coded}
-use Rattle.drafts.specs.Drafts.{manyVariables}
-use Rattle.drafts.specs.Steps.{WordEnd, Places, SideRead, OperandKnown, operandBits, codeOf, WhenKnown, conditionWords}
+use Rattle.drafts.specs.Steps.{WordEnd, Places, SideRead, OperandKnown, operandBits, WhenKnown, conditionWords}
 use Rattle.drafts.specs.Steps.{OperandOf, ComparisonOf, ConditionOf}
 use Rattle.drafts.proofs.Split.{operator-clear, side-clear, side-attribute, joined, cut-at, uncut, behind-part}
 
 -- a side that was read is small
-pub side-small : (places word : List ℕ) (side : Sided) → Places places → SideOf places word side → side .ok ≡ true → SideRead side
+pub side-small :
+    (places word : List ℕ) (side : Sided) → Places places → SideOf places word side → side .ok ≡ true → SideRead side
 side-small places word side p (SideOf.found s k e o place attribute) t =
     let b = p .small (s .name - firstLetter) in
     record { from = omega (arith, k .known); upto = omega arith; small = omega (arith, k .small) }
@@ -30,8 +30,8 @@ module _ (places : List ℕ) (left : Sided) (operator : ℕ) (word : List ℕ) (
   pub operand-side :
       (bits : ℕ) → SideOf places word right → right .ok ≡ true
       → bits
-        ≡ (left .place - 1) * 2 ^ 60 + left .attribute * 2 ^ 57 + operator * 2 ^ 54
-        + (2 ^ 53 + (right .place - 1) * 2 ^ 49 + right .attribute * 2 ^ 46)
+      ≡ (left .place - 1) * 2 ^ 60 + left .attribute * 2 ^ 57 + operator * 2 ^ 54
+      + (2 ^ 53 + (right .place - 1) * 2 ^ 49 + right .attribute * 2 ^ 46)
       → OperandOf places left operator word (record { ok = true; bits = bits })
   unfolding OperandKnown operandBits operandWord
   operand-side bits (SideOf.found s k e o place attribute) t b =
@@ -131,7 +131,7 @@ module _ (places bytes : List ℕ) (place : ℕ) (r : Coded) (w : WordEnd bytes 
   condition-of left h (SideOf.none n o) f c = absurd (true≢false (sym f ∙ o))
   condition-of left h (SideOf.found s k e o p a) f (ComparisonOf.found operator right l m q v b) =
       let t : operatorWord operator ++ (space ∷ operandWord right) ≡ drop (place + 1) bytes =
-          q ∙ behind-part bytes (place + 1) in
+      q ∙ behind-part bytes (place + 1) in
       ConditionOf.found (record { left = s; operator = operator; right = right })
       (record { left = k; operator = l; right = rw a at m })
       (ap (λ (t : List ℕ). t ++ (space ∷ (operatorWord operator ++ (space ∷ operandWord right)))) e
@@ -144,7 +144,7 @@ module _ (places bytes : List ℕ) (place : ℕ) (r : Coded) (w : WordEnd bytes 
       (λ x m q.
       let c = cut-side x h m q in
       let same : x .left .attribute ≡ left .attribute =
-          side-attribute (x .left) s (m .left .small) (k .small) (c .0 ∙ sym e) ∙ sym a in
+      side-attribute (x .left) s (m .left .small) (k .small) (c .0 ∙ sym e) ∙ sym a in
       n (x .operator) (x .right) (m .operator)
       (subst (λ (t : ℕ). OperandKnown places t (x .right)) same (m .right))
       (c .1 ∙ sym (behind-part bytes (place + 1))))

@@ -1,8 +1,8 @@
 -- What a draft tells after a set line, a name, a condition and a duration more. Assumes nothing.
 use mathlib.Core.Path.{_≡_, _∙_, refl, sym, ap, subst}
-use mathlib.Core.Bool.{Bool, true, false}
+use mathlib.Core.Bool.{Bool}
 use mathlib.Core.List.{List, [], _∷_, _++_, map, flatMap, append-assoc, append-nil, map-append, List·Memᴰ}
-use Prim.Native.Nat.{ℕ, zero, suc, _+_, _-_, _*_, _≤_, _<_, min}
+use Prim.Native.Nat.{ℕ, suc, _+_, _-_, _*_, _≤_, _<_, min}
 use native.Mathlib.Omega.{arith}
 use borrow.Author.Tests.{eqb-true, eqb-false}
 use lib.Dec.{eqb}
@@ -10,12 +10,12 @@ use lib.ListN.{length, getD, take, set, length-append, length-set}
 use lib.Seq.{getD-set-same, getD-set-other, take-suc-set}
 use Rattle.numbers.specs.Numbers.{oneIf}
 use Rattle.numbers.proofs.Cases.{by-test}
-use Rattle.patterns.specs.Patterns.{mostVariables, mostConditions}
+use Rattle.patterns.specs.Patterns.{mostVariables}
 use Rattle.form.specs.Form.{Member, When, firstLetter, namesOf, names, IsLetter}
 use Rattle.form.specs.Packed.{memberByte, memberBytes, whenBits}
-use Rattle.form.proofs.Making.{names-append, names-more}
+use Rattle.form.proofs.Making.{names-append}
 use Rattle.drafts.specs.declared.Draft.{Draft}
-use Rattle.drafts.specs.Drafts.{manyVariables, manyConditions, placesOf, Small, Holds}
+use Rattle.drafts.specs.Drafts.{manyVariables, placesOf, Small, Holds}
 use Rattle.drafts.specs.Steps.{refused, withSet, withMember, withCondition, withDuration}
 use Rattle.drafts.proofs.Places.{places-more}
 
@@ -52,7 +52,8 @@ bytes-last k (t ∷ sets) s =
 
 bytes-member :
     (sets : List (List Member)) (s : List Member) (m : Member)
-    → memberBytes 1 (sets ++ ((s ++ (m ∷ [])) ∷ [])) ≡ memberBytes 1 (sets ++ (s ∷ [])) ++ (memberByte (1 + length sets) m ∷ [])
+    → memberBytes 1 (sets ++ ((s ++ (m ∷ [])) ∷ []))
+    ≡ memberBytes 1 (sets ++ (s ∷ [])) ++ (memberByte (1 + length sets) m ∷ [])
 bytes-member sets s m =
     let f = memberByte (1 + length sets) in
     bytes-last 1 sets (s ++ (m ∷ []))
@@ -98,9 +99,9 @@ small-member d name group l s =
       set = s .set;
       c = s .c;
       places = λ k.
-        by-test (eqb k i)
-        (λ e. let q = eqb-true k i e in let w = getD-set-same (d .places) i v 0 (omega (arith, s .letters)) in subst (λ (j : ℕ). getD (set (d .places) i v) j 0 ≤ manyVariables) (sym q) (omega arith))
-        (λ e. let w = getD-set-other (d .places) i k v 0 (eqb-false k i e) in omega (arith, s .places k));
+          by-test (eqb k i)
+          (λ e. let q = eqb-true k i e in let w = getD-set-same (d .places) i v 0 (omega (arith, s .letters)) in subst (λ (j : ℕ). getD (set (d .places) i v) j 0 ≤ manyVariables) (sym q) (omega arith))
+          (λ e. let w = getD-set-other (d .places) i k v 0 (eqb-false k i e) in omega (arith, s .places k));
       letters = length-set (d .places) i v ∙ s .letters;
       variables = length-set (d .variables) (d .n) (d .set * 16 + oneIf group * 8) ∙ s .variables;
       conditions = s .conditions;
@@ -108,7 +109,8 @@ small-member d name group l s =
 
 module _ (sets : List (List Member)) (s : List Member) (m : Member) (d : Draft) where
   pub holds-member :
-      Small d → length sets ≤ length (names sets) → IsLetter (m .name) → ¬ List·Memᴰ (m .name) (names (sets ++ (s ∷ [])))
+      Small d → length sets ≤ length (names sets) → IsLetter (m .name)
+      → ¬ List·Memᴰ (m .name) (names (sets ++ (s ∷ [])))
       → Holds (sets ++ (s ∷ [])) [] d
       → Holds (sets ++ ((s ++ (m ∷ [])) ∷ [])) [] (withMember d (m .name) (m .group))
   unfolding memberByte
@@ -123,23 +125,23 @@ module _ (sets : List (List Member)) (s : List Member) (m : Member) (d : Draft) 
         set = omega (arith, h .set, length-snoc sets s, length-snoc sets (s ++ (m ∷ [])));
         c = h .c;
         places =
-          ap (λ (p : List ℕ). set p (m .name - firstLetter) v) (h .places)
-          ∙ ap (set (placesOf old) (m .name - firstLetter)) w
-          ∙ places-more old (m .name) letter out
-          ∙ ap placesOf (sym e);
+            ap (λ (p : List ℕ). set p (m .name - firstLetter) v) (h .places)
+            ∙ ap (set (placesOf old) (m .name - firstLetter)) w
+            ∙ places-more old (m .name) letter out
+            ∙ ap placesOf (sym e);
         variables = λ g.
-          let a : d .n ≡ length old = omega (arith, h .n) in
-          let l : length old < length (d .variables) = omega (arith, small .variables) in
-          let first : length (names sets) ≤ length old = omega (arith, ap length (names-last sets s), length-append (names sets) (namesOf s)) in
-          let x : d .set * 16 + oneIf (m .group) * 8 ≡ memberByte (1 + length sets) m =
-              let q : d .set ≡ 1 + length sets = omega (arith, h .set, length-snoc sets s) in
-              ap (λ (t : ℕ). t * 16 + oneIf (m .group) * 8) q in
-          ap (λ (t : ℕ). take t (set (d .variables) (d .n) (d .set * 16 + oneIf (m .group) * 8))) more
-          ∙ ap (λ (t : ℕ). take (suc (length old)) (set (d .variables) t (d .set * 16 + oneIf (m .group) * 8))) a
-          ∙ take-suc-set (d .variables) (length old) (d .set * 16 + oneIf (m .group) * 8) l
-          ∙ ap (λ (t : List ℕ). t ++ ((d .set * 16 + oneIf (m .group) * 8) ∷ [])) (h .variables (omega arith))
-          ∙ ap (λ (t : ℕ). memberBytes 1 (sets ++ (s ∷ [])) ++ (t ∷ [])) x
-          ∙ sym (bytes-member sets s m);
+            let a : d .n ≡ length old = omega (arith, h .n) in
+            let l : length old < length (d .variables) = omega (arith, small .variables) in
+            let first : length (names sets) ≤ length old = omega (arith, ap length (names-last sets s), length-append (names sets) (namesOf s)) in
+            let x : d .set * 16 + oneIf (m .group) * 8 ≡ memberByte (1 + length sets) m =
+            let q : d .set ≡ 1 + length sets = omega (arith, h .set, length-snoc sets s) in
+            ap (λ (t : ℕ). t * 16 + oneIf (m .group) * 8) q in
+            ap (λ (t : ℕ). take t (set (d .variables) (d .n) (d .set * 16 + oneIf (m .group) * 8))) more
+            ∙ ap (λ (t : ℕ). take (suc (length old)) (set (d .variables) t (d .set * 16 + oneIf (m .group) * 8))) a
+            ∙ take-suc-set (d .variables) (length old) (d .set * 16 + oneIf (m .group) * 8) l
+            ∙ ap (λ (t : List ℕ). t ++ ((d .set * 16 + oneIf (m .group) * 8) ∷ [])) (h .variables (omega arith))
+            ∙ ap (λ (t : ℕ). memberBytes 1 (sets ++ (s ∷ [])) ++ (t ∷ [])) x
+            ∙ sym (bytes-member sets s m);
         conditions = λ f g. refl;
       }
 
@@ -171,14 +173,14 @@ holds-condition sets whens w d word small h e =
       places = h .places;
       variables = h .variables;
       conditions = λ a b.
-        let q : d .c ≡ length whens = omega (arith, h .c) in
-        let l : length whens < length (d .conditions) = omega (arith, small .conditions) in
-        ap (λ (t : ℕ). take t (set (d .conditions) (d .c) word)) more
-        ∙ ap (λ (t : ℕ). take (suc (length whens)) (set (d .conditions) t word)) q
-        ∙ take-suc-set (d .conditions) (length whens) word l
-        ∙ ap (λ (t : List ℕ). t ++ (word ∷ [])) (h .conditions a (omega arith))
-        ∙ ap (λ (t : ℕ). map f whens ++ (t ∷ [])) (e a)
-        ∙ sym (map-append f whens (w ∷ []));
+          let q : d .c ≡ length whens = omega (arith, h .c) in
+          let l : length whens < length (d .conditions) = omega (arith, small .conditions) in
+          ap (λ (t : ℕ). take t (set (d .conditions) (d .c) word)) more
+          ∙ ap (λ (t : ℕ). take (suc (length whens)) (set (d .conditions) t word)) q
+          ∙ take-suc-set (d .conditions) (length whens) word l
+          ∙ ap (λ (t : List ℕ). t ++ (word ∷ [])) (h .conditions a (omega arith))
+          ∙ ap (λ (t : ℕ). map f whens ++ (t ∷ [])) (e a)
+          ∙ sym (map-append f whens (w ∷ []));
     }
 
 -- ## No more told

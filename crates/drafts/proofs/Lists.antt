@@ -1,8 +1,7 @@
 -- Words in front of bytes, and the first space. Assumes nothing.
-use mathlib.Core.Path.{_≡_, _∙_, refl, sym, ap}
-use mathlib.Core.List.{List, [], _∷_, _++_}
-use Prim.Native.Nat.{ℕ, zero, suc, _+_, _-_, _≤_, _<_}
-use native.Mathlib.Nat.{not-suc-le-zero, le-of-suc-le-suc}
+use mathlib.Core.Path.{_≡_, _∙_, sym, ap}
+use mathlib.Core.List.{List, _++_}
+use Prim.Native.Nat.{ℕ, _+_, _-_, _≤_, _<_}
 use native.Mathlib.Omega.{arith}
 use lib.ListN.{length, getD, take, drop, length-append, take-append-drop, List·getD-append}
 use lib.Seq.{ext-getD, getD-take, length-take-le}
@@ -14,8 +13,8 @@ pub front :
     → bytes ≡ word ++ drop (length word) bytes
 front bytes word h same =
     let e : take (length word) bytes ≡ word =
-        ext-getD 0 (take (length word) bytes) word (length-take-le (length word) bytes h)
-        (λ k l. let m : k < length word = omega (arith, length-take-le (length word) bytes h) in getD-take (length word) bytes k 0 m ∙ same k m) in
+    ext-getD 0 (take (length word) bytes) word (length-take-le (length word) bytes h)
+    (λ k l. let m : k < length word = omega (arith, length-take-le (length word) bytes h) in getD-take (length word) bytes k 0 m ∙ same k m) in
     sym (take-append-drop (length word) bytes) ∙ ap (λ (l : List ℕ). l ++ drop (length word) bytes) e
 
 pub front-length : (bytes word rest : List ℕ) → bytes ≡ word ++ rest → length word ≤ length bytes

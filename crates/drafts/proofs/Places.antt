@@ -1,8 +1,9 @@
 -- The places of names in a table by letters, with one name more. Assumes nothing.
-use mathlib.Core.Path.{_≡_, _∙_, refl, sym, ap, subst}
-use mathlib.Core.Bool.{Bool, true, false}
+use mathlib.Core.Path.{_≡_, _∙_, refl, sym, ap}
+use mathlib.Core.Bool.{true, false}
 use mathlib.Core.Logic.{⊎-elim}
-use mathlib.Core.List.{List, [], _∷_, _++_, map, List·Memᴰ, List·Memᴰ·head, List·Memᴰ·tail, List·Memᴰ·cases-cons, List·Memᴰ·not-nil}
+use mathlib.Core.List.{List, [], _∷_, _++_, map, List·Memᴰ, List·Memᴰ·head, List·Memᴰ·tail, List·Memᴰ·cases-cons}
+use mathlib.Core.List.{List·Memᴰ·not-nil}
 use Prim.Native.Nat.{ℕ, zero, suc, _+_, _-_, _≤_, _<_, min}
 use native.Mathlib.Nat.{not-suc-le-zero, le-of-suc-le-suc}
 use native.Mathlib.Omega.{arith}
@@ -101,7 +102,8 @@ module _ (known : List ℕ) where
   unfolding placesOf
   places-size = length-map (upto 0 letters) (λ (k : ℕ). min (placeOf (firstLetter + k) known) manyVariables) ∙ length-upto 0 letters
 
-  pub places-at : (k : ℕ) → k < letters → getD (placesOf known) k 0 ≡ min (placeOf (firstLetter + k) known) manyVariables
+  pub places-at :
+      (k : ℕ) → k < letters → getD (placesOf known) k 0 ≡ min (placeOf (firstLetter + k) known) manyVariables
   unfolding placesOf
   places-at k h =
       let e : 0 + k ≡ k = omega arith in
@@ -139,7 +141,7 @@ more-at known x k h out l =
     let q = eqb-true k i e in
     let n : firstLetter + k ≡ x = omega arith in
     let w : placeOf (firstLetter + k) (known ++ (x ∷ [])) ≡ suc (length known) =
-        ap (λ (y : ℕ). placeOf y (known ++ (x ∷ []))) n ∙ last-place x known (no-place x known out) in
+    ap (λ (y : ℕ). placeOf y (known ++ (x ∷ []))) n ∙ last-place x known (no-place x known out) in
     ap (λ (j : ℕ). getD (set (placesOf known) i v) j 0) q
     ∙ getD-set-same (placesOf known) i v 0 (omega (arith, places-size known))
     ∙ sym (there ∙ ap (λ (p : ℕ). min p manyVariables) w))

@@ -1,14 +1,14 @@
 -- A line by its first word: what its other bytes decide. Assumes nothing.
 use mathlib.Core.Path.{_≡_, _∙_, sym, ap, subst}
-use mathlib.Core.Bool.{Bool, true, false}
+use mathlib.Core.Bool.{true}
 use mathlib.Core.List.{List, [], _∷_, _++_, map, append-assoc, append-nil, append-cancel-left, append-cancel-right}
-use Prim.Native.Nat.{ℕ, _-_, _≤_}
+use Prim.Native.Nat.{ℕ, _-_}
 use native.Mathlib.Omega.{arith}
 use lib.ListN.{length, take, drop, length-drop}
 use lib.Seq.{take-all}
 use Rattle.numbers.specs.Decimal.{decimal}
-use Rattle.form.specs.Form.{Member, When, lineFeed, space, setWord, whenWord, withinWord, memberWord, sideWord}
-use Rattle.form.specs.Form.{operatorWord, operandWord, spaced, line, setLine, whenLine, withinLine, WhenInOrder}
+use Rattle.form.specs.Form.{Member, When, lineFeed, space, setWord, whenWord, withinWord, memberWord}
+use Rattle.form.specs.Form.{operandWord, spaced, line, setLine, whenLine, withinLine, WhenInOrder}
 use Rattle.form.specs.Items.{Item, set-item, when-item, within-item, itemLine, State, start, SetNext, Named, Next, end}
 use Rattle.drafts.specs.declared.Draft.{Draft}
 use Rattle.drafts.specs.Drafts.{DraftOf, LineRead, good, bad}
@@ -29,7 +29,8 @@ unfolding withinLine line spaced
 within-bytes n = rw (append-nil (decimal n))
 
 -- bytes in front of the line feed, behind a first word
-cut : (word a b whole : List ℕ) → whole ≡ (word ++ a) ++ (lineFeed ∷ []) → whole ≡ (word ++ b) ++ (lineFeed ∷ []) → a ≡ b
+cut :
+    (word a b whole : List ℕ) → whole ≡ (word ++ a) ++ (lineFeed ∷ []) → whole ≡ (word ++ b) ++ (lineFeed ∷ []) → a ≡ b
 cut word a b whole e f =
     append-cancel-left word a b (append-cancel-right (word ++ a) (word ++ b) (lineFeed ∷ []) (sym e ∙ f))
 
@@ -170,5 +171,5 @@ pub line-part :
 line-part l bytes word r e h =
     let n = length word in
     let p : take (length bytes - n) (drop n bytes) ≡ drop n bytes =
-        take-all (length bytes - n) (drop n bytes) (omega (arith, length-drop n bytes)) in
+    take-all (length bytes - n) (drop n bytes) (omega (arith, length-drop n bytes)) in
     subst (λ (b : List ℕ). LineRead l b r) (ap (λ (t : List ℕ). word ++ t) p ∙ sym e) h

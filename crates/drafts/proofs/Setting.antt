@@ -1,22 +1,23 @@
 -- A set line read name by name. Assumes nothing.
 use mathlib.Core.Path.{_≡_, _∙_, refl, sym, ap, subst}
-use mathlib.Core.Bool.{Bool, true, false, true≢false}
+use mathlib.Core.Bool.{true, false, true≢false}
 use mathlib.Core.Logic.{⊎-elim}
 use mathlib.Core.List.{List, [], _∷_, _++_, map, append-assoc, append-nil, map-append}
 use mathlib.Core.List.{List·Memᴰ, List·Memᴰ·head, List·Memᴰ·tail, List·Memᴰ·cases-cons, List·Memᴰ·not-nil}
 use mathlib.Core.List.{List·Memᴰ·append-cases, List·Memᴰ·eq-of-singleton, Memᴰ·append-right, Memᴰ·map}
-use Prim.Native.Nat.{ℕ, zero, suc, _+_, _-_, _≤_, _<_, min}
+use Prim.Native.Nat.{ℕ, _+_, _-_, _≤_, _<_, min}
 use native.Mathlib.Omega.{arith}
 use lib.ListN.{length, getD, take, drop, length-append, length-drop, drop-of-length-le}
 use lib.Seq.{drop-drop, take-all}
 use Rattle.words.specs.Words.{large}
-use Rattle.form.specs.Form.{Member, space, plus, setWord, firstLetter, memberWord, spaced, namesOf, names, IsLetter, Once}
-use Rattle.form.specs.Items.{Item, set-item, setsIn, whensIn, durationIn, State, start, inSets, Valid, after, end}
+use Rattle.form.specs.Form.{Member, space, plus, setWord, firstLetter, memberWord, spaced, namesOf, names, IsLetter}
+use Rattle.form.specs.Form.{Once}
+use Rattle.form.specs.Items.{Item, set-item, setsIn, durationIn, State, start, inSets, Valid, after, end}
 use Rattle.form.proofs.Making.{sets-snoc-set, whens-snoc-set, duration-snoc-set, end-snoc, known-names, sets-few}
 use Rattle.drafts.specs.declared.Draft.{Draft}
 use Rattle.drafts.specs.declared.Piece.{Piece}
 use Rattle.drafts.specs.Drafts.{placesOf, Small, Holds, DraftOf, LineRead}
-use Rattle.drafts.specs.Steps.{PieceOf, found, none, memberIn, refused, withSet, withMember, MemberTaken, again, new}
+use Rattle.drafts.specs.Steps.{PieceOf, found, none, memberIn, withSet, withMember, MemberTaken, again, new}
 use Rattle.drafts.proofs.Places.{named-place, place-named}
 use Rattle.drafts.proofs.Holding.{names-last, holds-set, holds-member, small-member, small-refused}
 use Rattle.drafts.proofs.History.{whens-none, known-once}
@@ -28,10 +29,11 @@ use Rattle.drafts.proofs.Read.{set-good, set-bad}
 once-more : (l : List ℕ) (x : ℕ) → Once l → ¬ List·Memᴰ x l → Once (l ++ (x ∷ []))
 unfolding Once
 once-more [] x o n = (λ m. List·Memᴰ·not-nil m, tt)
-once-more (y ∷ l) x o n =
-    ((λ m.
-    ⊎-elim (λ a. o .0 a) (λ b. n (List·Memᴰ·head (sym (List·Memᴰ·eq-of-singleton b)))) (List·Memᴰ·append-cases l m)),
-    once-more l x (o .1) (λ m. n (List·Memᴰ·tail m)))
+once-more (y ∷ l) x o n = (
+  (λ m.
+      ⊎-elim (λ a. o .0 a) (λ b. n (List·Memᴰ·head (sym (List·Memᴰ·eq-of-singleton b)))) (List·Memᴰ·append-cases l m)),
+  once-more l x (o .1) (λ m. n (List·Memᴰ·tail m)),
+)
 
 once-twice : (l : List ℕ) (x : ℕ) (r : List ℕ) → Once (l ++ (x ∷ r)) → ¬ List·Memᴰ x l
 unfolding Once
@@ -125,11 +127,11 @@ more-read line at size members m e f =
     let old = spaced (map memberWord members) in
     let one = space ∷ (memberWord m ++ []) in
     let a : spaced (map memberWord (members ++ (m ∷ []))) ≡ old ++ one =
-        ap spaced (map-append memberWord members (m ∷ [])) ∙ spaced-append (map memberWord members) (memberWord m ∷ []) in
+    ap spaced (map-append memberWord members (m ∷ [])) ∙ spaced-append (map memberWord members) (memberWord m ∷ []) in
     let b : drop at line ≡ one ++ drop (at + size) line =
-        f
-        ∙ ap (λ (t : List ℕ). space ∷ (memberWord m ++ t)) (drop-drop size at line)
-        ∙ ap (λ (t : List ℕ). space ∷ (t ++ drop (at + size) line)) (sym (append-nil (memberWord m))) in
+    f
+    ∙ ap (λ (t : List ℕ). space ∷ (memberWord m ++ t)) (drop-drop size at line)
+    ∙ ap (λ (t : List ℕ). space ∷ (t ++ drop (at + size) line)) (sym (append-nil (memberWord m))) in
     e ∙ ap (λ (t : List ℕ). old ++ t) b
     ∙ sym (append-assoc old one (drop (at + size) line))
     ∙ ap (λ (t : List ℕ). t ++ drop (at + size) line) (sym a)
@@ -141,7 +143,7 @@ more-only :
     → (piece .group ≡ false → (t : List ℕ) → ¬ (drop (piece .size) (drop at line) ≡ plus ∷ t))
     → others ≡ members ++ rest → spaced (map memberWord rest) ≡ drop at line
     → (t : List Member) × (others ≡ members ++ (memberIn piece ∷ t))
-      × (spaced (map memberWord t) ≡ drop (at + piece .size) line)
+    × (spaced (map memberWord t) ≡ drop (at + piece .size) line)
 unfolding spaced
 more-only line at piece members others [] h e p o b = absurd (left-some line at h b)
 more-only line at piece members others (m ∷ t) h e p o b =
@@ -160,7 +162,7 @@ turned l line at q piece v s h letter e p z g =
     let m = memberIn piece in
     let out = new-name (setsIn l) (g .members) q (piece .name) letter (g .holds) z in
     let named : namesOf (g .members ++ (m ∷ [])) ≡ namesOf (g .members) ++ (piece .name ∷ []) =
-        map-append (λ (m : Member). m .name) (g .members) (m ∷ []) in
+    map-append (λ (m : Member). m .name) (g .members) (m ∷ []) in
     record {
       early = g .early;
       members = g .members ++ (m ∷ []);
@@ -170,19 +172,19 @@ turned l line at q piece v s h letter e p z g =
       duration = g .duration;
       holds = holds-member (setsIn l) (g .members) m q s (sets-few l v) letter out (g .holds);
       small = λ x n.
-        ⊎-elim (λ a. g .small x a)
-        (λ b. let w = List·Memᴰ·eq-of-singleton b in subst IsLetter (sym w) letter)
-        (List·Memᴰ·append-cases (namesOf (g .members)) (subst (λ (t : List ℕ). List·Memᴰ x t) named n));
+          ⊎-elim (λ a. g .small x a)
+          (λ b. let w = List·Memᴰ·eq-of-singleton b in subst IsLetter (sym w) letter)
+          (List·Memᴰ·append-cases (namesOf (g .members)) (subst (λ (t : List ℕ). List·Memᴰ x t) named n));
       once =
-        subst Once
-        (append-assoc (names (setsIn l)) (namesOf (g .members)) (piece .name ∷ [])
-        ∙ ap (λ (t : List ℕ). names (setsIn l) ++ t) (sym named))
-        (once-more (names (setsIn l) ++ namesOf (g .members)) (piece .name) (g .once)
-        (λ n. out (rw (names-last (setsIn l) (g .members)) n)));
+          subst Once
+          (append-assoc (names (setsIn l)) (namesOf (g .members)) (piece .name ∷ [])
+          ∙ ap (λ (t : List ℕ). names (setsIn l) ++ t) (sym named))
+          (once-more (names (setsIn l) ++ namesOf (g .members)) (piece .name) (g .once)
+          (λ n. out (rw (names-last (setsIn l) (g .members)) n)));
       only = λ others o.
-        let k = g .only others o in
-        let t = more-only line at piece (g .members) others (k .0) h e p (k .1) (k .2) in
-        (t .0, t .1 ∙ sym (append-assoc (g .members) (m ∷ []) (t .0)), t .2);
+          let k = g .only others o in
+          let t = more-only line at piece (g .members) others (k .0) h e p (k .1) (k .2) in
+          (t .0, t .1 ∙ sym (append-assoc (g .members) (m ∷ []) (t .0)), t .2);
     }
 
 -- ## The end of the reading
@@ -233,12 +235,12 @@ repeated l line at q r piece h letter e p n b g =
     let o = g .only others f in
     let t = more-only line at piece (g .members) others (o .0) h e p (o .1) (o .2) in
     let x : Once ((names (setsIn l) ++ namesOf (g .members)) ++ (piece .name ∷ namesOf (t .0))) =
-        subst Once
-        (ap (λ (a : List ℕ). a ++ namesOf others) (known-names l)
-        ∙ ap (λ (a : List Member). names (setsIn l) ++ namesOf a) (t .1)
-        ∙ ap (λ (a : List ℕ). names (setsIn l) ++ a) (map-append (λ (m : Member). m .name) (g .members) (memberIn piece ∷ t .0))
-        ∙ sym (append-assoc (names (setsIn l)) (namesOf (g .members)) (piece .name ∷ namesOf (t .0))))
-        (k .once) in
+    subst Once
+    (ap (λ (a : List ℕ). a ++ namesOf others) (known-names l)
+    ∙ ap (λ (a : List Member). names (setsIn l) ++ namesOf a) (t .1)
+    ∙ ap (λ (a : List ℕ). names (setsIn l) ++ a) (map-append (λ (m : Member). m .name) (g .members) (memberIn piece ∷ t .0))
+    ∙ sym (append-assoc (names (setsIn l)) (namesOf (g .members)) (piece .name ∷ namesOf (t .0))))
+    (k .once) in
     once-twice (names (setsIn l) ++ namesOf (g .members)) (piece .name) (namesOf (t .0)) x
     (taken-name (setsIn l) (g .members) q (piece .name) letter (g .holds) n))
     b
@@ -251,9 +253,9 @@ pub ended :
 unfolding spaced
 ended l line at q v some h g =
     let e : spaced (map memberWord (g .members)) ≡ line =
-        sym (append-nil (spaced (map memberWord (g .members))))
-        ∙ ap (λ (t : List ℕ). spaced (map memberWord (g .members)) ++ t) (sym (drop-of-length-le line h))
-        ∙ sym (g .read) in
+    sym (append-nil (spaced (map memberWord (g .members))))
+    ∙ ap (λ (t : List ℕ). spaced (map memberWord (g .members)) ++ t) (sym (drop-of-length-le line h))
+    ∙ sym (g .read) in
     set-good l line q (g .members)
     (record {
       phase = g .early;

@@ -1,10 +1,10 @@
--- Words up to the first space: words of a condition have none in them, so the bytes say where they end. Assumes nothing.
+-- Words up to the first space: a condition's words have none in them, so the bytes say where each ends.
+-- Assumes nothing.
 use mathlib.Core.Path.{_≡_, _∙_, refl, sym, ap}
 use mathlib.Core.Bool.{Bool, true, false, _&&_}
 use mathlib.Core.Logic.{⊎-elim}
-use mathlib.Core.List.{List, [], _∷_, _++_, List·Memᴰ, List·Memᴰ·head, List·Memᴰ·tail, List·Memᴰ·cases-cons, List·Memᴰ·not-nil}
+use mathlib.Core.List.{List, [], _∷_, _++_, List·Memᴰ, List·Memᴰ·cases-cons, List·Memᴰ·not-nil}
 use Prim.Native.Nat.{ℕ, zero, suc, _+_, _-_, _≤_, _<_}
-use native.Mathlib.Nat.{not-suc-le-zero}
 use native.Mathlib.Numerals.{add-one}
 use native.Mathlib.Omega.{arith}
 use borrow.Author.Tests.{ltb-true}
@@ -12,8 +12,8 @@ use lib.Dec.{eqb, ltb}
 use lib.ListN.{length, getD, take, drop, length-append, length-drop}
 use lib.Seq.{split-at, take-all, getD-append-seam}
 use Rattle.numbers.proofs.Cases.{both}
-use Rattle.patterns.specs.Patterns.{lastAttribute, lastOperator}
-use Rattle.form.specs.Form.{Side, space, dot, attributeWords, operatorWords, attributeWord, operatorWord, sideWord, IsLetter}
+use Rattle.patterns.specs.Patterns.{lastAttribute}
+use Rattle.form.specs.Form.{Side, space, attributeWords, operatorWords, attributeWord, operatorWord, sideWord, IsLetter}
 use Rattle.form.proofs.Cancel.{cut-same}
 use Rattle.drafts.specs.Steps.{WordEnd}
 
@@ -103,6 +103,9 @@ clear-part [] (suc place) f m = List·Memᴰ·not-nil m
 clear-part (b ∷ bytes) (suc place) f m =
     let r = clear-part bytes place (λ k h. f (suc k) (omega arith)) in
     ⊎-elim (λ e. f 0 (omega arith) (sym e)) (λ n. r n) (List·Memᴰ·cases-cons m)
+
+pub place-below : (bytes : List ℕ) (place : ℕ) → WordEnd bytes place → ¬ (place ≡ length bytes) → place < length bytes
+place-below bytes place w d = omega (arith, d, w .bound)
 
 pub joined :
     (bytes : List ℕ) (place : ℕ) → WordEnd bytes place → place < length bytes

@@ -1,7 +1,7 @@
 -- What each step of reading does: the parts of a line, and the drafts after the steps.
 use mathlib.Core.Path.{_≡_}
 use mathlib.Core.Bool.{Bool, true, false}
-use mathlib.Core.List.{List, [], _∷_, _++_}
+use mathlib.Core.List.{List, _∷_, _++_}
 use Prim.Native.Nat.{ℕ, suc, _+_, _-_, _*_, _^_, _≤_, _<_, min}
 use lib.ListN.{length, getD, set, drop}
 use Rattle.numbers.specs.Numbers.{oneIf}

@@ -4,7 +4,6 @@ use mathlib.Core.Bool.{true≢false}
 use Prim.Native.Nat.{ℕ, _-_, _≤_, _<_}
 use native.Mathlib.Omega.{arith}
 use borrow.Author.Count.{below-more}
-use borrow.Author.Needs.{needs}
 use lib.ListN.{length, getD}
 use Rattle.drafts.proofs.Lists.{front, front-length, front-same}
 use Rattle.drafts.proofs.begins.Statement.{statement}

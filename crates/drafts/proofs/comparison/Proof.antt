@@ -1,14 +1,11 @@
 -- `drafts::comparison` meets its contract. Assumes nothing.
-use Prim.Native.Nat.{ℕ, _≤_, _<_}
-use mathlib.Core.Path.{_≡_, sym}
+use mathlib.Core.Path.{sym}
 use native.Mathlib.Omega.{arith}
 use lib.Seq.{length-take-le}
+use Rattle.drafts.proofs.Split.{place-below}
 use Rattle.drafts.proofs.Conditions.{comparison-uncut, comparison-other, comparison-of}
 use Rattle.drafts.proofs.comparison.Statement.{statement}
 use Rattle.drafts.proofs.comparison.Tie as tie
-
-below : (k n : ℕ) → k ≤ n → ¬ (k ≡ n) → k < n
-below k n h d = omega (arith, d)
 
 word-end-requires : tie.Need-word-end-requires
 word-end-requires c κs = tt
@@ -39,19 +36,19 @@ returns-2 c =
     let w = c .before .before .before .before .before .word-end in
     let o = c .before .before .operator-of in
     comparison-other (a .places .now) (a .left) (a .line .now) (w .result) (c .no-code2 .result) (w .ensures) (o .result)
-    (below _ _ (w .ensures .bound) (c .before .before .before .before .if1 .left)) (o .ensures) (c .before .if2 .taken) (c .no-code2 .ensures)
+    (place-below _ _ (w .ensures) (c .before .before .before .before .if1 .left)) (o .ensures) (c .before .if2 .taken) (c .no-code2 .ensures)
 
 add-next : tie.Need-add-next
-add-next c = let h = below _ _ (c .before .before .before .before .word-end .ensures .bound) (c .before .before .before .if1 .left) in omega arith
+add-next c = let h = place-below _ _ (c .before .before .before .before .word-end .ensures) (c .before .before .before .if1 .left) in omega arith
 
 sub-operand : tie.Need-sub-operand
-sub-operand c = let h = below _ _ (c .before .before .before .before .word-end .ensures .bound) (c .before .before .before .if1 .left) in omega arith
+sub-operand c = let h = place-below _ _ (c .before .before .before .before .word-end .ensures) (c .before .before .before .if1 .left) in omega arith
 
 part-operand-start : tie.Need-part-operand-start
-part-operand-start c = let h = below _ _ (c .before .before .before .before .word-end .ensures .bound) (c .before .before .before .if1 .left) in omega arith
+part-operand-start c = let h = place-below _ _ (c .before .before .before .before .word-end .ensures) (c .before .before .before .if1 .left) in omega arith
 
 part-operand-end : tie.Need-part-operand-end
-part-operand-end c = let h = below _ _ (c .before .before .before .before .word-end .ensures .bound) (c .before .before .before .if1 .left) in omega arith
+part-operand-end c = let h = place-below _ _ (c .before .before .before .before .word-end .ensures) (c .before .before .before .if1 .left) in omega arith
 
 operand-requires : tie.Need-operand-requires
 operand-requires c κs = (c .before .before .before .before .before .before .before .pre .0, c .before .before .before .before .before .before .before .pre .1, omega (arith, c .before .if2 .left))
@@ -62,7 +59,7 @@ returns-3 c =
     let w = c .before .before .before .before .before .before .word-end in
     let o = c .before .before .before .operator-of in
     comparison-of (a .places .now) (a .left) (a .line .now) (w .result) (c .operand .result) (w .ensures) (o .result)
-    (below _ _ (w .ensures .bound) (c .before .before .before .before .before .if1 .left)) (o .ensures) (omega (arith, c .before .before .if2 .left)) (c .operand .ensures)
+    (place-below _ _ (w .ensures) (c .before .before .before .before .before .if1 .left)) (o .ensures) (omega (arith, c .before .before .if2 .left)) (c .operand .ensures)
 
 pub comparison-spec : {M : Type 1} → statement M
 comparison-spec =

@@ -1,16 +1,13 @@
 -- `drafts::condition` meets its contract. Assumes nothing.
-use Prim.Native.Nat.{ℕ, _≤_, _<_}
-use mathlib.Core.Path.{_≡_, sym}
+use mathlib.Core.Path.{sym}
 use native.Mathlib.Omega.{arith}
 use lib.Seq.{length-take-le}
 use lib.ListN.{take}
 use borrow.Author.Tests.{not-true, not-false}
+use Rattle.drafts.proofs.Split.{place-below}
 use Rattle.drafts.proofs.Conditions.{side-small, condition-uncut, condition-other, condition-of}
 use Rattle.drafts.proofs.condition.Statement.{statement}
 use Rattle.drafts.proofs.condition.Tie as tie
-
-below : (k n : ℕ) → k ≤ n → ¬ (k ≡ n) → k < n
-below k n h d = omega (arith, d)
 
 word-end-requires : tie.Need-word-end-requires
 word-end-requires c κs = tt
@@ -41,19 +38,19 @@ returns-2 c =
     let w = c .before .before .before .before .before .before .word-end in
     let s = c .before .before .before .side in
     condition-other (a .places .now) (a .line .now) (w .result) (c .no-code2 .result) (w .ensures) (s .result)
-    (below _ _ (w .ensures .bound) (c .before .before .before .before .before .if1 .left)) (s .ensures) (not-true _ (c .before .if2 .taken)) (c .no-code2 .ensures)
+    (place-below _ _ (w .ensures) (c .before .before .before .before .before .if1 .left)) (s .ensures) (not-true _ (c .before .if2 .taken)) (c .no-code2 .ensures)
 
 add-next : tie.Need-add-next
-add-next c = let h = below _ _ (c .before .before .before .before .before .word-end .ensures .bound) (c .before .before .before .before .if1 .left) in omega arith
+add-next c = let h = place-below _ _ (c .before .before .before .before .before .word-end .ensures) (c .before .before .before .before .if1 .left) in omega arith
 
 sub-comparison : tie.Need-sub-comparison
-sub-comparison c = let h = below _ _ (c .before .before .before .before .before .word-end .ensures .bound) (c .before .before .before .before .if1 .left) in omega arith
+sub-comparison c = let h = place-below _ _ (c .before .before .before .before .before .word-end .ensures) (c .before .before .before .before .if1 .left) in omega arith
 
 part-comparison-start : tie.Need-part-comparison-start
-part-comparison-start c = let h = below _ _ (c .before .before .before .before .before .word-end .ensures .bound) (c .before .before .before .before .if1 .left) in omega arith
+part-comparison-start c = let h = place-below _ _ (c .before .before .before .before .before .word-end .ensures) (c .before .before .before .before .if1 .left) in omega arith
 
 part-comparison-end : tie.Need-part-comparison-end
-part-comparison-end c = let h = below _ _ (c .before .before .before .before .before .word-end .ensures .bound) (c .before .before .before .before .if1 .left) in omega arith
+part-comparison-end c = let h = place-below _ _ (c .before .before .before .before .before .word-end .ensures) (c .before .before .before .before .if1 .left) in omega arith
 
 comparison-requires : tie.Need-comparison-requires
 comparison-requires c κs =
@@ -67,7 +64,7 @@ returns-3 c =
     let w = c .before .before .before .before .before .before .before .word-end in
     let s = c .before .before .before .before .side in
     condition-of (a .places .now) (a .line .now) (w .result) (c .comparison .result) (w .ensures) (s .result)
-    (below _ _ (w .ensures .bound) (c .before .before .before .before .before .before .if1 .left)) (s .ensures) (not-false _ (c .before .before .if2 .left)) (c .comparison .ensures)
+    (place-below _ _ (w .ensures) (c .before .before .before .before .before .before .if1 .left)) (s .ensures) (not-false _ (c .before .before .if2 .left)) (c .comparison .ensures)
 
 pub condition-spec : {M : Type 1} → statement M
 condition-spec =

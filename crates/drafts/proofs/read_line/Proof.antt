@@ -1,6 +1,6 @@
 -- `drafts::read_line` meets its contract. Assumes nothing.
-use mathlib.Core.Path.{_≡_, sym, ap, subst}
-use mathlib.Core.List.{List, [], _∷_, _++_}
+use mathlib.Core.Path.{sym, ap, subst}
+use mathlib.Core.List.{[], _∷_, _++_}
 use native.Mathlib.Omega.{arith}
 use borrow.Author.Needs.{needs}
 use Rattle.form.specs.Form.{space, setWord, whenWord, withinWord}
@@ -42,9 +42,10 @@ read-set-requires c κs = c .before .before .before .before .before .pre
 returns : tie.Need-returns
 returns c =
     let line = c .before .before .before .before .before .before .args .line .now in
-    let r = c .read-set in
-    (r .ensures .0,
-    λ l v h. line-part l line setWord (r .result) (c .before .before .before .begins .ensures .so (c .before .before .if1 .taken)) (r .ensures .1 l v h))
+    let r = c .read-set in (
+      r .ensures .0,
+      λ l v h. line-part l line setWord (r .result) (c .before .before .before .begins .ensures .so (c .before .before .if1 .taken)) (r .ensures .1 l v h),
+    )
 
 slice-aggregate-begins-2 : tie.Need-slice-aggregate-begins-2
 slice-aggregate-begins-2 c = search needs
@@ -76,9 +77,10 @@ read-when-requires c κs = c .before .before .before .before .before .before .be
 returns-2 : tie.Need-returns-2
 returns-2 c =
     let line = c .before .before .before .before .before .before .before .before .before .args .line .now in
-    let r = c .read-when in
-    (r .ensures .0,
-    λ l v h. line-part l line (whenWord ++ (space ∷ [])) (r .result) (c .before .before .before .begins2 .ensures .so (c .before .before .if2 .taken)) (r .ensures .1 l v h))
+    let r = c .read-when in (
+      r .ensures .0,
+      λ l v h. line-part l line (whenWord ++ (space ∷ [])) (r .result) (c .before .before .before .begins2 .ensures .so (c .before .before .if2 .taken)) (r .ensures .1 l v h),
+    )
 
 slice-aggregate-begins-3 : tie.Need-slice-aggregate-begins-3
 slice-aggregate-begins-3 c = search needs
@@ -110,9 +112,10 @@ read-within-requires c κs = c .before .before .before .before .before .before .
 returns-3 : tie.Need-returns-3
 returns-3 c =
     let line = c .before .before .before .before .before .before .before .before .before .before .before .before .args .line .now in
-    let r = c .read-within in
-    (r .ensures .0,
-    λ l v h. line-part l line (withinWord ++ (space ∷ [])) (r .result) (c .before .before .before .begins3 .ensures .so (c .before .before .if3 .taken)) (r .ensures .1 l v h))
+    let r = c .read-within in (
+      r .ensures .0,
+      λ l v h. line-part l line (withinWord ++ (space ∷ [])) (r .result) (c .before .before .before .begins3 .ensures .so (c .before .before .if3 .taken)) (r .ensures .1 l v h),
+    )
 
 refuse-requires : tie.Need-refuse-requires
 refuse-requires c κs = tt
@@ -120,12 +123,13 @@ refuse-requires c κs = tt
 returns-4 : tie.Need-returns-4
 returns-4 c =
     let a = c .before .before .before .before .before .before .before .before .before .before .before .args in
-    let e = c .refuse .ensures in
-    (subst Small (sym e) (small-refused (a .d) (c .before .before .before .before .before .before .before .before .before .before .before .pre)),
-    λ l v h.
-    line-bad l (a .line .now) (c .refuse .result) (c .before .before .before .before .before .before .before .before .begins .ensures .not-so (c .before .before .before .before .before .before .before .if1 .left))
-    (c .before .before .before .before .before .begins2 .ensures .not-so (c .before .before .before .before .if2 .left)) (c .before .before .begins3 .ensures .not-so (c .before .if3 .left))
-    (ap (λ (d : Draft). d .bad) e))
+    let e = c .refuse .ensures in (
+      subst Small (sym e) (small-refused (a .d) (c .before .before .before .before .before .before .before .before .before .before .before .pre)),
+      λ l v h.
+          line-bad l (a .line .now) (c .refuse .result) (c .before .before .before .before .before .before .before .before .begins .ensures .not-so (c .before .before .before .before .before .before .before .if1 .left))
+          (c .before .before .before .before .before .begins2 .ensures .not-so (c .before .before .before .before .if2 .left)) (c .before .before .begins3 .ensures .not-so (c .before .if3 .left))
+          (ap (λ (d : Draft). d .bad) e),
+    )
 
 pub read-line-spec : {M : Type 1} → statement M
 read-line-spec =

@@ -27,7 +27,8 @@ some n h = omega (arith, h)
 
 -- the draft before the first name
 first :
-    (c : tie.After-with-set Inv-loop μ-loop) (l : List Item) → Valid start l → DraftOf l (c .before .before .before .before .before .args .d)
+    (c : tie.After-with-set Inv-loop μ-loop) (l : List Item) → Valid start l
+    → DraftOf l (c .before .before .before .before .before .args .d)
     → Progress l (c .before .before .before .before .before .args .line .now) 0 (c .with-set .result)
 first c l v h =
     let a = c .before .before .before .before .before .args in
@@ -40,9 +41,10 @@ returns : tie.Need-returns Inv-loop μ-loop
 returns c =
     let a = c .before .before .before .before .args in
     let e = c .refuse .ensures in
-    let b : c .refuse .result .bad ≡ true = ap (λ (d : Draft). d .bad) e in
-    (subst Small (sym e) (small-refused (a .d) (c .before .before .before .before .pre)),
-    λ l v h. too-late l (a .line .now) (a .d) (c .refuse .result) (c .before .if1 .taken) b h)
+    let b : c .refuse .result .bad ≡ true = ap (λ (d : Draft). d .bad) e in (
+      subst Small (sym e) (small-refused (a .d) (c .before .before .before .before .pre)),
+      λ l v h. too-late l (a .line .now) (a .d) (c .refuse .result) (c .before .if1 .taken) b h,
+    )
 
 refuse-requires-2 : tie.Need-refuse-requires-2 Inv-loop μ-loop
 refuse-requires-2 c κs = tt
@@ -51,9 +53,10 @@ returns-2 : tie.Need-returns-2 Inv-loop μ-loop
 returns-2 c =
     let a = c .before .before .before .before .before .args in
     let e = c .refuse2 .ensures in
-    let b : c .refuse2 .result .bad ≡ true = ap (λ (d : Draft). d .bad) e in
-    (subst Small (sym e) (small-refused (a .d) (c .before .before .before .before .before .pre)),
-    λ l v h. no-names l (a .line .now) (c .refuse2 .result) (c .before .if2 .taken) b)
+    let b : c .refuse2 .result .bad ≡ true = ap (λ (d : Draft). d .bad) e in (
+      subst Small (sym e) (small-refused (a .d) (c .before .before .before .before .before .pre)),
+      λ l v h. no-names l (a .line .now) (c .refuse2 .result) (c .before .if2 .taken) b,
+    )
 
 with-set-requires : tie.Need-with-set-requires Inv-loop μ-loop
 with-set-requires c κs = tt
@@ -83,12 +86,13 @@ returns-3 c =
     let at = c .before .before .before .before .before .before .loop .at in
     let e = c .refuse3 .ensures in
     let b : c .refuse3 .result .bad ≡ true = ap (λ (d : Draft). d .bad) e in
-    let p = left-part (a .line .now) at (c .before .before .before .first-member .result) (c .before .before .before .first-member .ensures) in
-    (subst Small (sym e) (small-refused (c .before .before .before .before .before .before .loop .q) (c .before .before .before .before .before .before .loop .inv .1)),
-    λ l v h.
-    no-name (a .line .now) at (c .before .before .before .first-member .result) l (c .before .before .before .before .before .before .loop .q) (c .refuse3 .result) (omega arith)
-    (c .before .if3 .taken) b p
-    (c .before .before .before .before .before .before .loop .inv .2 l v (first (c .before .before .before .before .before .before .before ) l v h)))
+    let p = left-part (a .line .now) at (c .before .before .before .first-member .result) (c .before .before .before .first-member .ensures) in (
+      subst Small (sym e) (small-refused (c .before .before .before .before .before .before .loop .q) (c .before .before .before .before .before .before .loop .inv .1)),
+      λ l v h.
+          no-name (a .line .now) at (c .before .before .before .first-member .result) l (c .before .before .before .before .before .before .loop .q) (c .refuse3 .result) (omega arith)
+          (c .before .if3 .taken) b p
+          (c .before .before .before .before .before .before .loop .inv .2 l v (first (c .before .before .before .before .before .before .before) l v h)),
+    )
 
 with-member-requires : tie.Need-with-member-requires Inv-loop μ-loop
 with-member-requires c κs =
@@ -103,11 +107,12 @@ returns-4 c =
     let k = c .before .before .before .before .before .before .before .loop in
     let f = c .before .before .before .before .first-member in
     let m = c .before .with-member in
-    let p = left-part line (k .at) (f .result) (f .ensures) in
-    (small-taken line (k .at) (f .result) (k .q) (m .result) (c .before .before .if3 .left) (k .inv .1) p (m .ensures),
-    λ l v h.
-    name-taken line (k .at) (f .result) (k .q) (m .result) (c .before .before .if3 .left) l (omega arith) (c .if4 .taken) p (m .ensures)
-    (k .inv .2 l v (first (c .before .before .before .before .before .before .before .before ) l v h)))
+    let p = left-part line (k .at) (f .result) (f .ensures) in (
+      small-taken line (k .at) (f .result) (k .q) (m .result) (c .before .before .if3 .left) (k .inv .1) p (m .ensures),
+      λ l v h.
+          name-taken line (k .at) (f .result) (k .q) (m .result) (c .before .before .if3 .left) l (omega arith) (c .if4 .taken) p (m .ensures)
+          (k .inv .2 l v (first (c .before .before .before .before .before .before .before .before) l v h)),
+    )
 
 add-at : tie.Need-add-at Inv-loop μ-loop
 add-at c =
@@ -134,19 +139,20 @@ loop-again c =
     let f = c .before .before .before .before .before .first-member in
     let m = c .before .before .with-member in
     let p = left-part line (k .at) (f .result) (f .ensures) in
-    let s = piece-size line (k .at) (f .result) (c .before .before .before .if3 .left) (omega arith) p in
-    (omega arith,
-    small-taken line (k .at) (f .result) (k .q) (m .result) (c .before .before .before .if3 .left) (k .inv .1) p (m .ensures),
-    λ l v g.
-    name-new line (k .at) (f .result) (k .q) (m .result) (c .before .before .before .if3 .left) l v (k .inv .1) (omega arith) (c .before .if4 .left) p
-    (m .ensures)
-    (k .inv .2 l v g))
+    let s = piece-size line (k .at) (f .result) (c .before .before .before .if3 .left) (omega arith) p in (
+      omega arith,
+      small-taken line (k .at) (f .result) (k .q) (m .result) (c .before .before .before .if3 .left) (k .inv .1) p (m .ensures),
+      λ l v g.
+          name-new line (k .at) (f .result) (k .q) (m .result) (c .before .before .before .if3 .left) l v (k .inv .1) (omega arith) (c .before .if4 .left) p
+          (m .ensures)
+          (k .inv .2 l v g),
+    )
 
 returns-5 : tie.Need-returns-5 Inv-loop μ-loop
 returns-5 c =
     let line = c .before .before .before .before .before .before .before .args .line .now in
     let k = c .before .loop in
-    (k .inv .1, λ l v h. ended l line (k .at) (k .q) v (some (length line) (c .before .before .before .if2 .left)) (omega arith) (k .inv .2 l v (first (c .before .before ) l v h)))
+    (k .inv .1, λ l v h. ended l line (k .at) (k .q) v (some (length line) (c .before .before .before .if2 .left)) (omega arith) (k .inv .2 l v (first (c .before .before) l v h)))
 
 pub read-set-spec : {M : Type 1} → statement M
 read-set-spec =

@@ -1,5 +1,5 @@
 -- `drafts::with_condition` meets its contract. Assumes nothing.
-use mathlib.Core.Path.{_≡_, sym}
+use mathlib.Core.Path.{sym}
 use native.Mathlib.Omega.{arith}
 use lib.ListN.{set}
 use lib.Seq.{set-out}

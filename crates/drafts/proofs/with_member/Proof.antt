@@ -1,10 +1,9 @@
 -- `drafts::with_member` meets its contract. Assumes nothing.
-use mathlib.Core.Path.{_≡_}
 use Prim.Native.Nat.{_-_}
 use lib.ListN.{set}
 use borrow.Author.Needs.{needs}
 use Rattle.form.specs.Form.{firstLetter}
-use Rattle.drafts.specs.Steps.{MemberTaken, again, new}
+use Rattle.drafts.specs.Steps.{again, new}
 use Rattle.drafts.proofs.with_member.Statement.{statement}
 use Rattle.drafts.proofs.with_member.Tie as tie
 
