@@ -1,9 +1,15 @@
 // A text read line by line: a draft holds what the lines so far have told.
 ghost use mathlib.Core.Path.{_≡_};
-ghost use mathlib.Core.List.{List, []};
-ghost use Prim.Native.Nat.{_+_, min};
+ghost use mathlib.Core.List.{List, [], _∷_, _++_};
+ghost use Prim.Native.Nat.{_+_, _*_, _-_, _^_, _≤_, _<_, min};
+ghost use mathlib.Core.Bool.{false};
+ghost use Rattle.patterns.specs.Patterns.{lastOperator};
+ghost use Rattle.form.specs.Form.{IsLetter, space, setWord, whenWord, withinWord};
 ghost use Rattle.form.specs.Items.{Item, start, Valid};
 ghost use Rattle.drafts.specs.Drafts.{Small, DraftOf, LineRead};
+ghost use Rattle.drafts.specs.Steps.{BeginsWith, WordEnd, PieceOf, MemberTaken, NamedTest, Places, SideRead};
+ghost use Rattle.drafts.specs.Steps.{OperandOf, ComparisonOf, ConditionOf};
+ghost use Rattle.drafts.specs.Steps.{refused, withVariable, withSet, withCondition, withDuration};
 
 const MOST_VARIABLES: usize = 12;
 
@@ -54,7 +60,9 @@ pub fn blank() -> Draft
 }
 
 // Whether a line begins with a word.
-fn begins(line: &[u8], word: &[u8]) -> bool {
+fn begins(line: &[u8], word: &[u8]) -> bool
+    ensures { λ r. ⌜ BeginsWith (now (line .entry)) (now (word .entry)) r ⌝ }
+{
     if line.len() < word.len() {
         return false;
     }
@@ -79,7 +87,9 @@ fn next(x: u8, most: u8) -> u8
 }
 
 // The line is bad.
-fn refuse(d: Draft) -> Draft {
+fn refuse(d: Draft) -> Draft
+    ensures { λ r. ⌜ r ≡ refused d ⌝ }
+{
     let mut q = d;
     q.bad = true;
     q
@@ -92,37 +102,46 @@ struct Piece {
     group: bool,
 }
 
-// The name at a place of a set line.
-fn member_at(line: &[u8], at: usize) -> Piece {
-    let none = Piece {
+fn no_piece() -> Piece
+    ensures { λ r. ⌜ r .size ≡ 0 ⌝ }
+{
+    Piece {
         size: 0,
         name: 0,
         group: false,
-    };
+    }
+}
+
+// The name in front of what is left of a set line.
+fn first_member(line: &[u8]) -> Piece
+    ensures { λ r. ⌜ PieceOf (now (line .entry)) r ⌝ }
+{
     if line.len() < 2 {
-        return none;
+        return no_piece();
     }
-    if line.len() - 2 < at {
-        return none;
+    if line[0] != b' ' {
+        return no_piece();
     }
-    if line[at] != b' ' {
-        return none;
-    }
-    let name = numbers::byte(line, at + 1);
+    let name = numbers::byte(line, 1);
     if name < b'a' {
-        return none;
+        return no_piece();
     }
     if b'z' < name {
-        return none;
+        return no_piece();
     }
-    if at + 2 < line.len() {
-        if line[at + 2] == b'+' {
-            return Piece {
-                size: 3,
-                name: name,
-                group: true,
-            };
-        }
+    if line.len() == 2 {
+        return Piece {
+            size: 2,
+            name: name,
+            group: false,
+        };
+    }
+    if line[2] == b'+' {
+        return Piece {
+            size: 3,
+            name: name,
+            group: true,
+        };
     }
     Piece {
         size: 2,
@@ -132,7 +151,10 @@ fn member_at(line: &[u8], at: usize) -> Piece {
 }
 
 // The byte of the next variable, where a pattern has room for it.
-fn with_variable(d: Draft, group: bool) -> Draft {
+fn with_variable(d: Draft, group: bool) -> Draft
+    requires { ⌜ Small d ⌝ }
+    ensures { λ r. ⌜ r ≡ withVariable d group ⌝ }
+{
     let at = d.n as usize;
     if MOST_VARIABLES <= at {
         return d;
@@ -143,7 +165,10 @@ fn with_variable(d: Draft, group: bool) -> Draft {
 }
 
 // One name more in the last set line.
-fn with_member(d: Draft, name: u8, group: bool) -> Draft {
+fn with_member(d: Draft, name: u8, group: bool) -> Draft
+    requires { ⌜ Small d × IsLetter name ⌝ }
+    ensures { λ r. ⌜ MemberTaken d name group r ⌝ }
+{
     let at = (name - words::FIRST_LETTER) as usize;
     if d.places[at] != 0 {
         return refuse(d);
@@ -155,20 +180,32 @@ fn with_member(d: Draft, name: u8, group: bool) -> Draft {
     q
 }
 
+// One set line more, with no name yet.
+fn with_set(d: Draft) -> Draft
+    ensures { λ r. ⌜ r ≡ withSet d ⌝ }
+{
+    let mut q = d;
+    q.phase = IN_SETS;
+    q.set = next(d.set, MANY_VARIABLES);
+    q
+}
+
 // A set line: its names, from behind the first word on.
-fn read_set(line: &[u8], d: Draft) -> Draft {
+fn read_set(line: &[u8], d: Draft) -> Draft
+    requires { ⌜ Small d ⌝ }
+    ensures { λ r. ⌜ Small r
+        × ((l : List Item) → Valid start l → DraftOf l d → LineRead l (setWord ++ now (line .entry)) r) ⌝ }
+{
     if IN_SETS < d.phase {
         return refuse(d);
     }
     if line.len() == 0 {
         return refuse(d);
     }
-    let mut q = d;
-    q.phase = IN_SETS;
-    q.set = next(d.set, MANY_VARIABLES);
+    let mut q = with_set(d);
     let mut at = 0;
     while at < line.len() {
-        let piece = member_at(line, at);
+        let piece = first_member(&line[at..]);
         if piece.size == 0 {
             return refuse(q);
         }
@@ -181,9 +218,11 @@ fn read_set(line: &[u8], d: Draft) -> Draft {
     q
 }
 
-// The first space from a place on, or the end.
-fn word_end(line: &[u8], from: usize) -> usize {
-    let mut at = from;
+// The first space, or the end.
+fn word_end(line: &[u8]) -> usize
+    ensures { λ r. ⌜ WordEnd (now (line .entry)) r ⌝ }
+{
+    let mut at = 0;
     while at < line.len() {
         if line[at] == b' ' {
             return at;
@@ -194,7 +233,9 @@ fn word_end(line: &[u8], from: usize) -> usize {
 }
 
 // Whether when lines and the within line may follow.
-fn is_named(phase: u8) -> bool {
+fn is_named(phase: u8) -> bool
+    ensures { λ r. ⌜ NamedTest phase r ⌝ }
+{
     if phase < IN_SETS {
         return false;
     }
@@ -202,7 +243,10 @@ fn is_named(phase: u8) -> bool {
 }
 
 // One condition more, where a pattern has room for it.
-fn with_condition(d: Draft, word: u64) -> Draft {
+fn with_condition(d: Draft, word: u64) -> Draft
+    requires { ⌜ Small d ⌝ }
+    ensures { λ r. ⌜ r ≡ withCondition d word ⌝ }
+{
     let mut q = d;
     q.phase = IN_WHENS;
     q.c = next(d.c, MANY_CONDITIONS);
@@ -215,7 +259,10 @@ fn with_condition(d: Draft, word: u64) -> Draft {
 }
 
 // The 64 bits of a condition with a constant.
-fn constant_bits(left: words::Sided, operator: u8, constant: u32) -> u64 {
+fn constant_bits(left: words::Sided, operator: u8, constant: u32) -> u64
+    requires { ⌜ SideRead left × (operator ≤ lastOperator) ⌝ }
+    ensures { λ r. ⌜ r ≡ (left .place - 1) * 2 ^ 60 + left .attribute * 2 ^ 57 + operator * 2 ^ 54 + constant ⌝ }
+{
     (left.place - 1) as u64 * 1152921504606846976
         + left.attribute as u64 * 144115188075855872
         + operator as u64 * 18014398509481984
@@ -223,7 +270,11 @@ fn constant_bits(left: words::Sided, operator: u8, constant: u32) -> u64 {
 }
 
 // The 64 bits of a condition between two attributes.
-fn join_bits(left: words::Sided, operator: u8, right: words::Sided) -> u64 {
+fn join_bits(left: words::Sided, operator: u8, right: words::Sided) -> u64
+    requires { ⌜ SideRead left × (operator ≤ lastOperator) × SideRead right ⌝ }
+    ensures { λ r. ⌜ r ≡ (left .place - 1) * 2 ^ 60 + left .attribute * 2 ^ 57 + operator * 2 ^ 54
+        + (2 ^ 53 + (right .place - 1) * 2 ^ 49 + right .attribute * 2 ^ 46) ⌝ }
+{
     (left.place - 1) as u64 * 1152921504606846976
         + left.attribute as u64 * 144115188075855872
         + operator as u64 * 18014398509481984
@@ -232,41 +283,107 @@ fn join_bits(left: words::Sided, operator: u8, right: words::Sided) -> u64 {
         + right.attribute as u64 * 70368744177664
 }
 
-// A condition, from behind the first word and its space on.
-fn read_when(line: &[u8], d: Draft) -> Draft {
+// The 64 bits of a condition, if the words are one.
+struct Coded {
+    ok: bool,
+    bits: u64,
+}
+
+fn no_code() -> Coded
+    ensures { λ r. ⌜ r .ok ≡ false ⌝ }
+{
+    Coded { ok: false, bits: 0 }
+}
+
+// A condition whose last word is this.
+fn operand(places: &[u8; 26], left: words::Sided, operator: u8, word: &[u8]) -> Coded
+    requires { ⌜ Places (now places) × SideRead left × (operator ≤ lastOperator) ⌝ }
+    ensures { λ r. ⌜ OperandOf (now (places .entry)) left operator (now (word .entry)) r ⌝ }
+{
+    let right = words::side(places, word);
+    if right.ok {
+        return Coded {
+            ok: true,
+            bits: join_bits(left, operator, right),
+        };
+    }
+    let constant = words::constant(left.attribute, word);
+    if !constant.ok {
+        return no_code();
+    }
+    Coded {
+        ok: true,
+        bits: constant_bits(left, operator, constant.bits),
+    }
+}
+
+// A condition, from behind its first word and the space after it on.
+fn comparison(places: &[u8; 26], left: words::Sided, line: &[u8]) -> Coded
+    requires { ⌜ Places (now places) × SideRead left ⌝ }
+    ensures { λ r. ⌜ ComparisonOf (now (places .entry)) left (now (line .entry)) r ⌝ }
+{
+    let end = word_end(line);
+    if end == line.len() {
+        return no_code();
+    }
+    let operator = words::operator_of(&line[..end]);
+    if words::OPERATORS <= operator {
+        return no_code();
+    }
+    let next = end + 1;
+    operand(places, left, operator, &line[next..])
+}
+
+// A condition, its three words.
+fn condition(places: &[u8; 26], line: &[u8]) -> Coded
+    requires { ⌜ Places (now places) ⌝ }
+    ensures { λ r. ⌜ ConditionOf (now (places .entry)) (now (line .entry)) r ⌝ }
+{
+    let end = word_end(line);
+    if end == line.len() {
+        return no_code();
+    }
+    let left = words::side(places, &line[..end]);
+    if !left.ok {
+        return no_code();
+    }
+    let next = end + 1;
+    comparison(places, left, &line[next..])
+}
+
+// A condition, from behind the line's first word and its space on.
+fn read_when(line: &[u8], d: Draft) -> Draft
+    requires { ⌜ Small d ⌝ }
+    ensures { λ r. ⌜ Small r
+        × ((l : List Item) → Valid start l → DraftOf l d → LineRead l (whenWord ++ (space ∷ now (line .entry))) r) ⌝ }
+{
     if !is_named(d.phase) {
         return refuse(d);
     }
-    let first = word_end(line, 0);
-    if first == line.len() {
-        return refuse(d);
-    }
-    let second = word_end(line, first + 1);
-    if second == line.len() {
-        return refuse(d);
-    }
     let places = d.places;
-    let left = words::side(&places, &line[..first]);
-    if !left.ok {
+    let code = condition(&places, line);
+    if !code.ok {
         return refuse(d);
     }
-    let operator = words::operator_of(&line[first + 1..second]);
-    if operator == words::OPERATORS {
-        return refuse(d);
-    }
-    let right = words::side(&places, &line[second + 1..]);
-    if right.ok {
-        return with_condition(d, join_bits(left, operator, right));
-    }
-    let constant = words::constant(left.attribute, &line[second + 1..]);
-    if !constant.ok {
-        return refuse(d);
-    }
-    with_condition(d, constant_bits(left, operator, constant.bits))
+    with_condition(d, code.bits)
+}
+
+// The draft with its duration.
+fn with_duration(d: Draft, value: u64) -> Draft
+    ensures { λ r. ⌜ r ≡ withDuration d value ⌝ }
+{
+    let mut q = d;
+    q.phase = FINISHED;
+    q.duration = value;
+    q
 }
 
 // The duration, from behind the first word and its space on.
-fn read_within(line: &[u8], d: Draft) -> Draft {
+fn read_within(line: &[u8], d: Draft) -> Draft
+    requires { ⌜ Small d ⌝ }
+    ensures { λ r. ⌜ Small r
+        × ((l : List Item) → Valid start l → DraftOf l d → LineRead l (withinWord ++ (space ∷ now (line .entry))) r) ⌝ }
+{
     if !is_named(d.phase) {
         return refuse(d);
     }
@@ -274,10 +391,7 @@ fn read_within(line: &[u8], d: Draft) -> Draft {
     if !n.ok {
         return refuse(d);
     }
-    let mut q = d;
-    q.phase = FINISHED;
-    q.duration = n.value;
-    q
+    with_duration(d, n.value)
 }
 
 // One line more, its line feed not among its bytes.

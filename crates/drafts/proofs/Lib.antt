@@ -1,0 +1,10 @@
+pub mod Lists
+pub mod Places
+pub mod Holding
+pub mod History
+pub mod Read
+pub mod Pieces
+pub mod Setting
+pub mod Split
+pub mod Conditions
+pub mod Behind
