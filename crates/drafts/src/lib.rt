@@ -10,15 +10,13 @@ ghost use Rattle.drafts.specs.Drafts.{Small, DraftOf, LineRead};
 ghost use Rattle.drafts.specs.Steps.{BeginsWith, WordEnd, PieceOf, MemberTaken, NamedTest, Places, SideRead};
 ghost use Rattle.drafts.specs.Steps.{OperandOf, ComparisonOf, ConditionOf};
 ghost use Rattle.drafts.specs.Steps.{refused, withVariable, withSet, withCondition, withDuration};
-
-const MOST_VARIABLES: usize = 12;
-
-const MOST_CONDITIONS: usize = 32;
+use patterns::{MOST_CONDITIONS, MOST_VARIABLES};
+use words::LETTERS;
 
 // Counts stop one above what a pattern may have.
-pub const MANY_VARIABLES: u8 = 13;
+const MANY_VARIABLES: u8 = MOST_VARIABLES as u8 + 1;
 
-pub const MANY_CONDITIONS: u8 = 33;
+const MANY_CONDITIONS: u8 = MOST_CONDITIONS as u8 + 1;
 
 // How far a text is: no line, set lines, when lines, the within line.
 const IN_SETS: u8 = 1;
@@ -31,7 +29,7 @@ pub const FINISHED: u8 = 3;
 // conditions as far as a pattern has room for them; counts of names, set lines and when lines; how far the text is;
 // whether its last line was bad; the duration.
 pub struct Draft {
-    pub places: [u8; 26],
+    pub places: [u8; LETTERS],
     pub variables: [u8; MOST_VARIABLES],
     pub conditions: [u64; MOST_CONDITIONS],
     pub n: u8,
@@ -47,7 +45,7 @@ pub fn blank() -> Draft
     ensures { λ r. ⌜ Small r × DraftOf [] r ⌝ }
 {
     Draft {
-        places: [0; 26],
+        places: [0; LETTERS],
         variables: [0; MOST_VARIABLES],
         conditions: [0; MOST_CONDITIONS],
         n: 0,
@@ -296,7 +294,7 @@ fn no_code() -> Coded
 }
 
 // A condition whose last word is this.
-fn operand(places: &[u8; 26], left: words::Sided, operator: u8, word: &[u8]) -> Coded
+fn operand(places: &[u8; LETTERS], left: words::Sided, operator: u8, word: &[u8]) -> Coded
     requires { ⌜ Places (now places) × SideRead left × (operator ≤ lastOperator) ⌝ }
     ensures { λ r. ⌜ OperandOf (now (places .entry)) left operator (now (word .entry)) r ⌝ }
 {
@@ -318,7 +316,7 @@ fn operand(places: &[u8; 26], left: words::Sided, operator: u8, word: &[u8]) -> 
 }
 
 // A condition, from behind its first word and the space after it on.
-fn comparison(places: &[u8; 26], left: words::Sided, line: &[u8]) -> Coded
+fn comparison(places: &[u8; LETTERS], left: words::Sided, line: &[u8]) -> Coded
     requires { ⌜ Places (now places) × SideRead left ⌝ }
     ensures { λ r. ⌜ ComparisonOf (now (places .entry)) left (now (line .entry)) r ⌝ }
 {
@@ -335,7 +333,7 @@ fn comparison(places: &[u8; 26], left: words::Sided, line: &[u8]) -> Coded
 }
 
 // A condition, its three words.
-fn condition(places: &[u8; 26], line: &[u8]) -> Coded
+fn condition(places: &[u8; LETTERS], line: &[u8]) -> Coded
     requires { ⌜ Places (now places) ⌝ }
     ensures { λ r. ⌜ ConditionOf (now (places .entry)) (now (line .entry)) r ⌝ }
 {
