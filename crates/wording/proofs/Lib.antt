@@ -1,3 +1,5 @@
 pub mod Pieces
 pub mod Sets
 pub mod Whens
+pub mod Named
+pub mod Conditions
