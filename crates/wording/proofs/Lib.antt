@@ -3,3 +3,5 @@ pub mod Sets
 pub mod Whens
 pub mod Named
 pub mod Conditions
+pub mod Bytes
+pub mod Written

@@ -87,7 +87,7 @@ module _ (p : Pattern) where
   unfolding setsUpTo
   sets-join v e = rw (e, setsUpTo)
 
-  begins-later : (v : ℕ) → beginsSet p (suc v) ≡ not (eqb (setOf p (suc v)) (setOf p v))
+  pub begins-later : (v : ℕ) → beginsSet p (suc v) ≡ not (eqb (setOf p (suc v)) (setOf p v))
   unfolding beginsSet
   begins-later v = rw (ne-eqb (suc v) 0 (λ e. omega arith), beginsSet) (simp unary-clauses)
 
