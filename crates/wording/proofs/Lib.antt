@@ -4,4 +4,5 @@ pub mod Whens
 pub mod Named
 pub mod Conditions
 pub mod Bytes
+pub mod Lengths
 pub mod Written

@@ -2,11 +2,12 @@
 -- pattern again. Assumes nothing.
 use mathlib.Core.Path.{_≡_, refl, sym, ap, ap₂, subst, _∙_}
 use mathlib.Core.Bool.{Bool, true, false, not, _||_}
-use mathlib.Core.List.{List, [], _∷_, _++_, map, flatMap, List·Memᴰ, Memᴰ·of-map}
+use mathlib.Core.List.{List, [], _∷_, _++_, map, flatMap, Memᴰ·of-map}
+use mathlib.Core.List.{List·Memᴰ, List·Memᴰ·head, List·Memᴰ·tail}
 use Prim.Native.Nat.{ℕ, zero, suc, _+_, _*_, _^_, _≤_, _<_}
 use native.Mathlib.Omega.{arith}
 use lib.Dec.{eqb, ltb, leb}
-use lib.ListN.{length, getD, length-map}
+use lib.ListN.{length, getD, length-map, length-append}
 use Rattle.numbers.specs.Numbers.{upto, field, oneIf}
 use Rattle.numbers.specs.Bytes.{wordBytes}
 use Rattle.numbers.proofs.Cases.{neither}
@@ -22,16 +23,19 @@ use Rattle.patterns.specs.Checked.{isGroup}
 use Rattle.patterns.specs.Checked
 use Rattle.patterns.proofs.Filled.{filled-at}
 use Rattle.patterns.proofs.InOrder.{accepted, accepted-pattern, accepted-in-order, set-of, condition-of}
-use Rattle.form.specs.Form.{Member, When, firstLetter, letters, names, IsLetter, Once, WhenInOrder, InOrder}
+use Rattle.form.specs.Form.{Member, When, Making, firstLetter, letters, names, namesOf, IsLetter, Once, WhenInOrder}
+use Rattle.form.specs.Form.{InOrder, textOf}
 use Rattle.form.specs.Packed.{memberByte, memberBytes, conditionBits, whenBits, headerBits, patternBytes, Fits}
-use Rattle.form.specs.Promises.{Names}
+use Rattle.form.specs.Promises.{Names, mostText}
 use Rattle.form.proofs.Assembled.{assembled, flat-same}
 use Rattle.form.proofs.Fields.{condition-within}
+use Rattle.form.proofs.OneNames.{names-one}
 use Rattle.wording.specs.Wording.{memberOf, setsUpTo, whenOf, makingOf}
 use Rattle.wording.proofs.Sets.{some-sets}
 use Rattle.wording.proofs.Named.{mem-upto, once-upto, names-upto, none-empty}
 use Rattle.wording.proofs.Conditions.{Kept, form-unused, form-unused-constant, when-in-order, when-bits}
 use Rattle.wording.proofs.Bytes.{member-bytes}
+use Rattle.wording.proofs.Lengths.{text-length}
 
 map-same :
     {A : Type 0} (f g : ℕ → A) (k n : ℕ) → ((i : ℕ) → k ≤ i → i < k + n → f i ≡ g i)
@@ -189,6 +193,10 @@ module _ (pattern : List ℕ) where
         ∙ when-bits n k (kept i (omega arith))
         ∙ ap conditionBits (condition-of pattern i (omega arith))))
 
+    written-length : length (textOf (makingOf p)) ≤ mostText
+    written-length =
+        text-length p in-order (omega (arith, within)) (λ j h. kept j (omega (arith, count-c)) .constant)
+
     module _ (small : (i : ℕ) → getD pattern i 0 < 256) where
       same-bytes : patternBytes (makingOf p) ≡ pattern
       unfolding patternBytes
@@ -203,3 +211,74 @@ module _ (pattern : List ℕ) where
       -- Rule 11.7
       pub named : Names pattern (makingOf p)
       named = record { order = making-in-order; fits = making-fits; alphabet = alphabet; same = same-bytes }
+
+-- ## The longest text
+
+-- each is below 256
+unfoldable AllBytes : List ℕ → Type 0
+AllBytes [] = Unit {0}
+AllBytes (x ∷ l) = (x < 256) × AllBytes l
+
+bytes-at : (l : List ℕ) → AllBytes l → (i : ℕ) → getD l i 0 < 256
+unfolding AllBytes
+bytes-at [] h i = omega arith
+bytes-at (x ∷ l) h zero = h .0
+bytes-at (x ∷ l) h (suc i) = bytes-at l (h .1) i
+
+bytes-append : (l r : List ℕ) → AllBytes l → AllBytes r → AllBytes (l ++ r)
+unfolding AllBytes
+bytes-append [] r h k = k
+bytes-append (x ∷ l) r h k = (h .0, bytes-append l r (h .1) k)
+
+word-small : (w : ℕ) → AllBytes (wordBytes w)
+unfolding AllBytes wordBytes
+word-small w =
+    (omega arith, (omega arith, (omega arith, (omega arith, (omega arith, (omega arith, (omega arith, (omega arith, tt))))))))
+
+words-small : {A : Type 0} (f : A → ℕ) (l : List A) → AllBytes (flatMap (λ (x : A). wordBytes (f x)) l)
+unfolding AllBytes flatMap
+words-small f [] = tt
+words-small f (x ∷ l) = bytes-append (wordBytes (f x)) _ (word-small (f x)) (words-small f l)
+
+flag-small : (t : Bool) → oneIf t ≤ 1
+flag-small true = omega arith
+flag-small false = omega arith
+
+set-small : (k : ℕ) (s : List Member) → k < 16 → AllBytes (map (memberByte k) s)
+unfolding AllBytes memberByte
+set-small k [] h = tt
+set-small k (m ∷ s) h = (omega (arith, flag-small (m .group)), set-small k s h)
+
+-- no more sets than names
+sets-few :
+    (sets : List (List Member)) → ((s : List Member) → List·Memᴰ s sets → ¬ (s ≡ []))
+    → length sets ≤ length (names sets)
+unfolding names flatMap
+sets-few [] h = omega arith
+sets-few ([] ∷ sets) h = absurd (h [] (List·Memᴰ·head refl) refl)
+sets-few ((m ∷ s) ∷ sets) h =
+    let later = sets-few sets (λ x q. h x (List·Memᴰ·tail q)) in
+    omega (arith, length-append (namesOf (m ∷ s)) (flatMap namesOf sets))
+
+sets-small : (k : ℕ) (sets : List (List Member)) → k + length sets ≤ 16 → AllBytes (memberBytes k sets)
+unfolding AllBytes memberBytes
+sets-small k [] h = tt
+sets-small k (s ∷ sets) h =
+    bytes-append (map (memberByte k) s) _ (set-small k s (omega arith)) (sets-small (suc k) sets (omega arith))
+
+pub bytes-small : (pattern : List ℕ) (m : Making) → Names pattern m → (i : ℕ) → getD pattern i 0 < 256
+unfolding patternBytes
+bytes-small pattern m names i =
+    let few = sets-few (m .sets) (names .order .none-empty) in
+    subst (λ (l : List ℕ). getD l i 0 < 256) (names .same)
+    (bytes-at (patternBytes m)
+    (bytes-append (wordBytes _) _ (word-small _)
+    (bytes-append (memberBytes 1 (m .sets)) _ (sets-small 1 (m .sets) (omega (arith, names .fits .few))) (words-small _ (m .whens)))) i)
+
+-- Rule 11.7: no pattern has a longer text
+pub longest :
+    (pattern : List ℕ) (m : Making) → patternAnswer pattern .code ≡ 0 → Names pattern m
+    → length (textOf m) ≤ mostText
+longest pattern m ok names =
+    let e = names-one pattern m (makingOf (patternOf pattern)) names (named pattern ok (bytes-small pattern m names)) in
+    omega (arith, ap (λ (k : Making). length (textOf k)) e, written-length pattern ok)
