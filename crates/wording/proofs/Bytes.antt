@@ -1,12 +1,11 @@
 -- The bytes of the variables of the sets that are written: those of the pattern's variables, in order. Assumes nothing.
 use mathlib.Core.Path.{_≡_, refl, sym, ap, ap₂, _∙_}
-use mathlib.Core.Bool.{true, false, not}
-use mathlib.Core.List.{List, [], _∷_, _++_, map, flatMap, append-assoc, append-nil, cons-ne-nil}
+use mathlib.Core.Bool.{true, false}
+use mathlib.Core.List.{List, [], _∷_, _++_, map, append-assoc, append-nil, cons-ne-nil}
 use Prim.Native.Nat.{ℕ, zero, suc, _+_, _≤_, _<_}
-use native.Mathlib.Nat.{add-zero, zero-add, add-suc, suc-add}
+use native.Mathlib.Nat.{add-zero, zero-add}
 use native.Mathlib.Omega.{arith}
 use borrow.Author.Tests.{eqb-true, eqb-false, not-true, not-false}
-use lib.Dec.{eqb}
 use lib.ListN.{length, length-append}
 use Rattle.numbers.specs.Numbers.{upto}
 use Rattle.numbers.proofs.Cases.{by-test}
@@ -55,12 +54,8 @@ module _ (p : Pattern) (o : InOrder p) where
   next-set :
       (v : ℕ) → suc v < p .n → beginsSet p (suc v) ≡ true → setOf p (suc v) ≡ suc (setOf p v)
   next-set v h b =
-      let d = eqb-false _ _ (not-true _ (sym (begins-later p v) ∙ b)) in
-      let c = o .climbs v h in
-      up (setOf p v) (setOf p (suc v)) (c .0) (c .1) d
-    where
-      up : (a b : ℕ) → a ≤ b → b ≤ a + 1 → ¬ (b ≡ a) → b ≡ suc a
-      up a b l u d = omega arith
+      let d = eqb-false (setOf p (suc v)) (setOf p v) (not-true _ (sym (begins-later p v) ∙ b)) in
+      omega (arith, o .climbs v h .0, o .climbs v h .1)
 
   same-set : (v : ℕ) → beginsSet p (suc v) ≡ false → setOf p (suc v) ≡ setOf p v
   same-set v b = eqb-true _ _ (not-false _ (sym (begins-later p v) ∙ b))
@@ -81,7 +76,8 @@ module _ (p : Pattern) (o : InOrder p) where
 
   bytes-next :
       (v : ℕ) → suc v ≤ p .n
-      → memberBytes 1 (setsUpTo p (suc v)) ≡ memberBytes 1 (setsUpTo p v) ++ (memberByte (setOf p v) (memberOf p v) ∷ [])
+      → memberBytes 1 (setsUpTo p (suc v))
+      ≡ memberBytes 1 (setsUpTo p v) ++ (memberByte (setOf p v) (memberOf p v) ∷ [])
   unfolding setsUpTo memberBytes
   bytes-next zero h =
       ap (memberBytes 1) (sets-begin p 0 (begins-first p))

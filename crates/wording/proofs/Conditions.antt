@@ -1,18 +1,18 @@
 -- The when line of a condition is in order, and stands for the condition again. Assumes nothing.
-use mathlib.Core.Path.{_≡_, refl, sym, ap, subst, _∙_}
-use mathlib.Core.Bool.{Bool, true, false, not, _||_, _&&_}
+use mathlib.Core.Path.{_≡_, sym, ap, subst, _∙_}
+use mathlib.Core.Bool.{true, false, not}
 use mathlib.Core.List.{List}
-use Prim.Native.Nat.{ℕ, _+_, _-_, _^_, _≤_, _<_}
+use Prim.Native.Nat.{ℕ, _-_, _^_, _≤_, _<_}
 use native.Mathlib.Omega.{arith}
 use borrow.Author.Tests.{lt-ltb, le-ltb, eqb-true, eqb-false, eq-eqb}
-use lib.Dec.{eqb, ltb, leb}
-use lib.IntN.{ℤ, pos, negsuc}
+use lib.Dec.{eqb}
+use lib.IntN.{pos, negsuc}
 use Rattle.numbers.specs.Numbers.{upto}
 use Rattle.numbers.proofs.Cases.{by-test, by-order, neither, not-not}
 use Rattle.patterns.specs.declared.Condition.{Condition}
 use Rattle.patterns.specs.Patterns.{lastAttribute, lastOperator, formBroken}
 use Rattle.patterns.specs.Comparison.{signed, constantValue}
-use Rattle.form.specs.Form.{Operand, constant, other, firstLetter, SideInOrder, inRange, OperandInOrder, WhenInOrder}
+use Rattle.form.specs.Form.{constant, firstLetter, inRange, OperandInOrder, WhenInOrder}
 use Rattle.form.specs.Packed.{bitsOf, conditionIn, conditionBits, whenBits}
 use Rattle.wording.specs.Wording.{letterOf, whenOf}
 use Rattle.wording.proofs.Pieces.{right-constant, right-other}
@@ -75,7 +75,9 @@ pub record Kept (n : ℕ) (k : Condition) : Type 0 where
   pub unused : k .form ≡ 0 → (k .variable2 ≡ 0) × (k .attribute2 ≡ 0)
   pub unused-constant : ¬ (k .form ≡ 0) → k .constant ≡ 0
 
-pub form-unused : (n : ℕ) (k : Condition) → formBroken n k ≡ false → k .form ≡ 0 → (k .variable2 ≡ 0) × (k .attribute2 ≡ 0)
+pub form-unused :
+    (n : ℕ) (k : Condition) → formBroken n k ≡ false → k .form ≡ 0
+    → (k .variable2 ≡ 0) × (k .attribute2 ≡ 0)
 unfolding formBroken
 form-unused n k h e =
     let both = neither (not (eqb (k .variable2) 0)) (not (eqb (k .attribute2) 0)) (rw (eq-eqb (k .form) 0 e, formBroken) at h) in
@@ -88,9 +90,6 @@ form-unused-constant n k h d =
     (λ e. absurd (d (eqb-true (k .form) 0 e)))
     (λ e. let both = neither (not (eqb (k .constant) 0)) _ (rw (e, formBroken) at h) in
     eqb-true (k .constant) 0 (not-not _ (both .0)))
-
-one-of-two : (a : ℕ) → a ≤ 1 → ¬ (a ≡ 0) → a ≡ 1
-one-of-two a h d = by-order a 1 (λ l. absurd (d (omega arith))) (λ l. omega arith)
 
 module _ (n : ℕ) (k : Condition) (kept : Kept n k) where
   abbrev known : List ℕ
@@ -142,7 +141,7 @@ module _ (n : ℕ) (k : Condition) (kept : Kept n k) where
       }))
       (λ e. let d = eqb-false (k .form) 0 e in
       let second = letter-place n (k .variable2) (kept .variable2) in
-      let f : k .form ≡ 1 = one-of-two (k .form) (kept .form) d in
+      let f : k .form ≡ 1 = omega (arith, kept .form) in
       ap (conditionIn known (whenOf k .left) (whenOf k .operator)) (right-other k d)
       ∙ (λ i.
       record {

@@ -1,7 +1,7 @@
 -- How long the lines of a text are, and the whole text of a checked pattern. Assumes nothing.
-use mathlib.Core.Path.{_≡_, refl, sym, ap, _∙_}
-use mathlib.Core.List.{List, [], _∷_, _++_, flatMap}
-use Prim.Native.Nat.{ℕ, zero, suc, _+_, _-_, _*_, _/_, _%_, _^_, _≤_, _<_}
+use mathlib.Core.Path.{_≡_, ap}
+use mathlib.Core.List.{[], _∷_, flatMap}
+use Prim.Native.Nat.{ℕ, zero, suc, _-_, _*_, _/_, _%_, _^_, _≤_, _<_}
 use native.Mathlib.Omega.{arith}
 use borrow.Author.Tests.{eqb-true, eqb-false}
 use lib.Dec.{eqb}
@@ -14,7 +14,7 @@ use Rattle.patterns.specs.declared.Pattern.{Pattern}
 use Rattle.patterns.specs.declared.Condition.{Condition}
 use Rattle.patterns.specs.Checked.{InOrder, conditionAt}
 use Rattle.patterns.specs.Comparison.{constantValue}
-use Rattle.form.specs.Form.{lineFeed, space, whenWord, withinWord, attributeWords, attributeWord, operatorWords}
+use Rattle.form.specs.Form.{lineFeed, attributeWords, attributeWord, operatorWords}
 use Rattle.form.specs.Form.{operatorWord, sideWord, integer, operandWord, setLine, whenLine, withinLine, textOf}
 use Rattle.form.specs.Promises.{mostText}
 use Rattle.wording.specs.Wording.{setsUpTo, whenOf, makingOf}

@@ -1,18 +1,16 @@
 -- The sets that are written: none is empty, and their names are the first letters, each once. Assumes nothing.
 use mathlib.Core.Path.{_≡_, refl, sym, ap, subst, _∙_}
 use mathlib.Core.Logic.{⊎-elim}
-use mathlib.Core.List.{List, [], _∷_, _++_, map, flatMap, append-assoc, append-nil, append-eq-nil-iff, cons-ne-nil}
+use mathlib.Core.List.{List, [], _∷_, _++_, flatMap, append-assoc, append-nil, append-eq-nil-iff, cons-ne-nil}
 use mathlib.Core.List.{List·Memᴰ, List·Memᴰ·head, List·Memᴰ·tail, List·Memᴰ·not-nil, List·Memᴰ·cases-cons}
 use mathlib.Core.List.{List·Memᴰ·eq-of-singleton, List·Memᴰ·append-cases}
 use Prim.Native.Nat.{ℕ, zero, suc, _+_, _≤_, _<_}
 use native.Mathlib.Omega.{arith}
-use lib.Dec.{eqb}
-use lib.ListN.{length, getD}
 use Rattle.numbers.specs.Numbers.{upto}
 use Rattle.numbers.proofs.Cases.{by-test, by-order}
 use Rattle.numbers.proofs.Upto.{length-upto, upto-snoc, getD-upto}
 use Rattle.patterns.specs.declared.Pattern.{Pattern}
-use Rattle.form.specs.Form.{Member, firstLetter, letters, namesOf, names, IsLetter, Once}
+use Rattle.form.specs.Form.{Member, firstLetter, namesOf, names, Once}
 use Rattle.form.specs.Packed.{variableOf}
 use Rattle.form.proofs.Places.{variable-bound, variable-at}
 use Rattle.wording.specs.Wording.{letterOf, memberOf, beginsSet, inLast, setsUpTo}

@@ -1,22 +1,20 @@
 -- The pieces of a text, put one behind the other. Assumes nothing.
-use mathlib.Core.Path.{_≡_, refl, sym, ap, _∙_}
+use mathlib.Core.Path.{_≡_, ap}
 use mathlib.Core.Bool.{true, false}
 use mathlib.Core.List.{List, [], _∷_, _++_, append-assoc, append-nil}
 use Prim.Native.Nat.{ℕ, suc, _+_, _-_, _^_, _≤_, _<_}
 use native.Mathlib.Omega.{arith}
 use borrow.Author.Tests.{lt-ltb, le-ltb, eq-eqb, ne-eqb}
-use lib.Dec.{eqb}
 use lib.ListN.{length, set, length-set}
 use Rattle.numbers.specs.Put.{Put}
 use Rattle.numbers.specs.Decimal.{decimal}
 use Rattle.numbers.proofs.Put.{put-byte, put-then}
-use Rattle.numbers.proofs.Cases.{by-order}
 use Rattle.patterns.specs.declared.Pattern.{Pattern}
 use Rattle.patterns.specs.declared.Condition.{Condition}
-use Rattle.patterns.specs.Checked.{isGroup, conditionAt}
+use Rattle.patterns.specs.Checked.{isGroup}
 use Rattle.patterns.specs.Comparison.{signed, constantValue}
-use Rattle.form.specs.Form.{lineFeed, space, plus, minus, setWord, whenWord, withinWord, memberWord, sideWord}
-use Rattle.form.specs.Form.{constant, other, operatorWord, integer, operandWord, spaced, line, whenLine, withinLine}
+use Rattle.form.specs.Form.{lineFeed, space, plus, minus, setWord, whenWord, withinWord, memberWord}
+use Rattle.form.specs.Form.{constant, other, integer, operandWord, spaced, line, whenLine, withinLine}
 use Rattle.wording.specs.Wording.{letterOf, memberOf, beginsSet, whenOf}
 use Rattle.wording.specs.Parts.{memberText, setText, variableText, sideText, operatorText}
 
@@ -119,24 +117,8 @@ within-text duration = simp (append-assoc, append-nil)
 
 -- ## The last of the attributes and of the operators
 
-other-than : (a b : ℕ) → b ≤ a → ¬ (a ≡ b) → b + 1 ≤ a
-other-than a b h k = by-order b a (λ l. omega arith) (λ l. absurd (k (omega arith)))
+pub last-operator : (a : ℕ) → a ≤ 4 → ¬ (a ≡ 0) → ¬ (a ≡ 1) → ¬ (a ≡ 2) → ¬ (a ≡ 3) → a ≡ 4
+last-operator a h n0 n1 n2 n3 = omega arith
 
-pub last-operator :
-    (a : ℕ) → a ≤ 4 → ¬ (a ≡ 0) → ¬ (a ≡ 1) → ¬ (a ≡ 2) → ¬ (a ≡ 3) → a ≡ 4
-last-operator a h n0 n1 n2 n3 =
-    let h1 = other-than a 0 (omega arith) n0 in
-    let h2 = other-than a 1 (omega arith) n1 in
-    let h3 = other-than a 2 (omega arith) n2 in
-    let h4 = other-than a 3 (omega arith) n3 in
-    omega arith
-
-pub last-attribute :
-    (a : ℕ) → a ≤ 5 → ¬ (a ≡ 0) → ¬ (a ≡ 1) → ¬ (a ≡ 2) → ¬ (a ≡ 3) → ¬ (a ≡ 4) → a ≡ 5
-last-attribute a h n0 n1 n2 n3 n4 =
-    let h1 = other-than a 0 (omega arith) n0 in
-    let h2 = other-than a 1 (omega arith) n1 in
-    let h3 = other-than a 2 (omega arith) n2 in
-    let h4 = other-than a 3 (omega arith) n3 in
-    let h5 = other-than a 4 (omega arith) n4 in
-    omega arith
+pub last-attribute : (a : ℕ) → a ≤ 5 → ¬ (a ≡ 0) → ¬ (a ≡ 1) → ¬ (a ≡ 2) → ¬ (a ≡ 3) → ¬ (a ≡ 4) → a ≡ 5
+last-attribute a h n0 n1 n2 n3 n4 = omega arith

@@ -1,16 +1,16 @@
 -- The set lines of the first variables: one variable more, the last line feed, and how long they are. Assumes nothing.
 use mathlib.Core.Path.{_≡_, refl, sym, ap, subst, _∙_}
-use mathlib.Core.Bool.{Bool, true, false, not, _||_}
+use mathlib.Core.Bool.{true, false, not}
 use mathlib.Core.List.{List, [], _∷_, _++_, map, flatMap, append-assoc, append-nil, append-eq-nil-iff, cons-ne-nil}
-use Prim.Native.Nat.{ℕ, zero, suc, _+_, _-_, _*_, _≤_, _<_}
+use Prim.Native.Nat.{ℕ, zero, suc, _+_, _*_, _≤_, _<_}
 use native.Mathlib.Numerals.{add-one, unary-clauses}
 use native.Mathlib.Omega.{arith}
-use borrow.Author.Tests.{eq-eqb, ne-eqb, eqb-true, eqb-false, not-true}
+use borrow.Author.Tests.{ne-eqb, eqb-false, not-true}
 use lib.Dec.{eqb}
 use lib.ListN.{length, set, length-append}
 use Rattle.numbers.specs.Put.{Put}
 use Rattle.numbers.proofs.Put.{put-none, put-byte, put-then}
-use Rattle.numbers.proofs.Cases.{by-test, by-order}
+use Rattle.numbers.proofs.Cases.{by-test}
 use Rattle.patterns.specs.declared.Pattern.{Pattern}
 use Rattle.patterns.specs.Checked.{setOf, isGroup, InOrder}
 use Rattle.form.specs.Form.{Member, lineFeed, space, setWord, memberWord, spaced, line, setLine}
@@ -68,9 +68,6 @@ last-some [] m e = absurd (cons-ne-nil _ _ e)
 last-some (s ∷ []) m e = absurd (cons-ne-nil _ _ e)
 last-some (s ∷ t ∷ sets) m e = absurd (cons-ne-nil _ _ e)
 
-set-rises : (a b : ℕ) → a ≤ b → ¬ (b ≡ a) → a + 1 ≤ b
-set-rises a b h k = by-order a b (λ l. omega arith) (λ l. absurd (k (omega arith)))
-
 -- ## The lines of a pattern
 
 module _ (p : Pattern) where
@@ -126,7 +123,7 @@ module _ (p : Pattern) where
   open-variable zero = open-first
   open-variable (suc v) = open-next v
 
--- ## How long they are
+  -- ## How long they are
 
   member-long : (v : ℕ) → length (memberText p v) ≤ 3
   member-long v =
@@ -146,10 +143,9 @@ module _ (p : Pattern) where
         let e = ap length (open-next v) in
         let l = length-append (openLines (setsUpTo p (suc v))) (variableText p (suc v)) in
         by-test (beginsSet p (suc v))
-        (λ b. let other = eqb-false _ _ (not-true _ (sym (begins-later v) ∙ b)) in
-        let up = set-rises (setOf p v) (setOf p (suc v)) (o .climbs v h .0) other in
+        (λ b. let other = eqb-false (setOf p (suc v)) (setOf p v) (not-true _ (sym (begins-later v) ∙ b)) in
         omega
-        (arith, ap length (begins-text p (suc v) b), length-append (setText (suc v)) (memberText p (suc v)), ap length (later-set (suc v) (λ z. omega arith)), member-long (suc v)))
+        (arith, o .climbs v h .0, ap length (begins-text p (suc v) b), length-append (setText (suc v)) (memberText p (suc v)), ap length (later-set (suc v) (λ z. omega arith)), member-long (suc v)))
         (λ b. omega (arith, ap length (joins-text p (suc v) b), member-long (suc v), o .climbs v h .0))
 
     pub open-short : (v : ℕ) → v ≤ p .n → length (openLines (setsUpTo p v)) ≤ 67

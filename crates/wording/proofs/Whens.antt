@@ -1,7 +1,7 @@
 -- The when lines of the first conditions, one more behind those there are. Assumes nothing.
 use mathlib.Core.Path.{_≡_, refl, sym, ap, _∙_}
 use mathlib.Core.List.{List, [], _∷_, _++_, map, flatMap, append-assoc, append-nil}
-use Prim.Native.Nat.{ℕ, zero, suc, _+_}
+use Prim.Native.Nat.{ℕ, suc, _+_}
 use native.Mathlib.Nat.{zero-add}
 use native.Mathlib.Numerals.{add-one}
 use Rattle.numbers.specs.Numbers.{upto}
@@ -42,9 +42,9 @@ pub one-when-more :
     → Put start more at (flatMap whenLine (whensOf p (i + 1))) next
 one-when-more p i start text more at end next a b =
     let e : flatMap whenLine (whensOf p (i + 1)) ≡ flatMap whenLine (whensOf p i) ++ whenLine (whenOf (conditionAt p i)) =
-        ap (λ (j : ℕ). flatMap whenLine (whensOf p j)) (add-one i)
-        ∙ ap (flatMap whenLine) (whens-snoc p i)
-        ∙ flat-snoc whenLine (whensOf p i) (whenOf (conditionAt p i)) in
+    ap (λ (j : ℕ). flatMap whenLine (whensOf p j)) (add-one i)
+    ∙ ap (flatMap whenLine) (whens-snoc p i)
+    ∙ flat-snoc whenLine (whensOf p i) (whenOf (conditionAt p i)) in
     rw e (put-then a b)
 
 pub all-whens :

@@ -8,7 +8,7 @@ use Prim.Native.Nat.{ℕ, zero, suc, _+_, _*_, _^_, _≤_, _<_}
 use native.Mathlib.Omega.{arith}
 use lib.Dec.{eqb, ltb, leb}
 use lib.ListN.{length, getD, length-map, length-append}
-use Rattle.numbers.specs.Numbers.{upto, field, oneIf}
+use Rattle.numbers.specs.Numbers.{upto, oneIf}
 use Rattle.numbers.specs.Bytes.{wordBytes}
 use Rattle.numbers.proofs.Cases.{neither}
 use Rattle.numbers.proofs.First.{first-fails}
@@ -23,14 +23,14 @@ use Rattle.patterns.specs.Checked.{isGroup}
 use Rattle.patterns.specs.Checked
 use Rattle.patterns.proofs.Filled.{filled-at}
 use Rattle.patterns.proofs.InOrder.{accepted, accepted-pattern, accepted-in-order, set-of, condition-of}
-use Rattle.form.specs.Form.{Member, When, Making, firstLetter, letters, names, namesOf, IsLetter, Once, WhenInOrder}
+use Rattle.form.specs.Form.{Member, When, Making, firstLetter, names, namesOf, Once, WhenInOrder}
 use Rattle.form.specs.Form.{InOrder, textOf}
 use Rattle.form.specs.Packed.{memberByte, memberBytes, conditionBits, whenBits, headerBits, patternBytes, Fits}
 use Rattle.form.specs.Promises.{Names, mostText}
 use Rattle.form.proofs.Assembled.{assembled, flat-same}
 use Rattle.form.proofs.Fields.{condition-within}
 use Rattle.form.proofs.OneNames.{names-one}
-use Rattle.wording.specs.Wording.{memberOf, setsUpTo, whenOf, makingOf}
+use Rattle.wording.specs.Wording.{memberOf, whenOf, makingOf}
 use Rattle.wording.proofs.Sets.{some-sets}
 use Rattle.wording.proofs.Named.{mem-upto, once-upto, names-upto, none-empty}
 use Rattle.wording.proofs.Conditions.{Kept, form-unused, form-unused-constant, when-in-order, when-bits}

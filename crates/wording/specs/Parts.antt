@@ -4,7 +4,7 @@ use mathlib.Core.List.{List, [], _∷_, _++_, map}
 use Prim.Native.Nat.{ℕ}
 use lib.Dec.{eqb}
 use Rattle.patterns.specs.declared.Pattern.{Pattern}
-use Rattle.form.specs.Form.{Member, Side, lineFeed, space, setWord, whenWord, memberWord, sideWord, operatorWord}
+use Rattle.form.specs.Form.{Member, lineFeed, space, setWord, memberWord, sideWord, operatorWord}
 use Rattle.form.specs.Form.{spaced, setLine}
 use Rattle.wording.specs.Wording.{letterOf, memberOf, beginsSet}
 

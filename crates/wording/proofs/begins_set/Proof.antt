@@ -1,5 +1,4 @@
 -- `wording::begins_set` meets its contract. Assumes nothing.
-use mathlib.Core.Path.{refl, sym}
 use borrow.Author.Tests.{eq-eqb, ne-eqb}
 use Rattle.wording.specs.Wording.{beginsSet}
 use borrow.Author.Needs.{needs}

@@ -1,9 +1,8 @@
 -- `wording::put_attribute` meets its contract: the word of each attribute. Assumes nothing.
 use mathlib.Core.Path.{_≡_}
 use native.Mathlib.Omega.{arith}
-use Rattle.form.specs.Form.{attributeWords, attributeWord, operatorWords, operatorWord}
-use Rattle.wording.specs.Parts.{operatorText}
-use Rattle.wording.proofs.Pieces.{put-as, last-attribute, last-operator}
+use Rattle.form.specs.Form.{attributeWords, attributeWord}
+use Rattle.wording.proofs.Pieces.{put-as, last-attribute}
 use borrow.Author.Needs.{needs}
 use Rattle.wording.proofs.put_attribute.Statement.{statement}
 use Rattle.wording.proofs.put_attribute.Tie as tie

@@ -1,4 +1,5 @@
--- `wording::put_constant` meets its contract: the digits, behind a minus where the constant is below 0. Assumes nothing.
+-- `wording::put_constant` meets its contract: the digits, behind a minus where the constant is below 0. Assumes
+-- nothing.
 use mathlib.Core.Path.{_∙_}
 use native.Mathlib.Omega.{arith}
 use lib.ListN.{length-set}
@@ -7,8 +8,6 @@ use Rattle.wording.proofs.Pieces.{unsigned, not-below, below}
 use borrow.Author.Needs.{needs}
 use Rattle.wording.proofs.put_constant.Statement.{statement}
 use Rattle.wording.proofs.put_constant.Tie as tie
-
--- `wording::put_constant` meets its contract: the digits, behind a minus where the constant is below 0. Assumes nothing.
 
 put-number-requires : tie.Need-put-number-requires
 put-number-requires c κs = search needs

@@ -11,9 +11,6 @@ use Rattle.wording.proofs.put_member.Tie as tie
 -- `wording::put_member` meets its contract: a space, the letter, and a plus behind that of a group variable. Assumes
 -- nothing.
 
--- `wording::put_member` meets its contract: a space, the letter, and a plus behind that of a group variable. Assumes
--- nothing.
-
 slice-write-text : tie.Need-slice-write-text
 slice-write-text c = search needs
 

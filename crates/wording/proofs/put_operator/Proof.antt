@@ -1,9 +1,9 @@
 -- `wording::put_operator` meets its contract: the word of each operator, between spaces. Assumes nothing.
 use mathlib.Core.Path.{_≡_}
 use native.Mathlib.Omega.{arith}
-use Rattle.form.specs.Form.{attributeWords, attributeWord, operatorWords, operatorWord}
+use Rattle.form.specs.Form.{operatorWords, operatorWord}
 use Rattle.wording.specs.Parts.{operatorText}
-use Rattle.wording.proofs.Pieces.{put-as, last-attribute, last-operator}
+use Rattle.wording.proofs.Pieces.{put-as, last-operator}
 use borrow.Author.Needs.{needs}
 use Rattle.wording.proofs.put_operator.Statement.{statement}
 use Rattle.wording.proofs.put_operator.Tie as tie

@@ -1,8 +1,6 @@
 -- `wording::put_sets` meets its contract. The loop's invariant: the lines of the first v variables have been put, the
 -- last without its line feed. Assumes nothing.
-use mathlib.Core.Path.{_≡_, sym, ap, _∙_}
-use mathlib.Core.List.{List}
-use Prim.Native.Nat.{ℕ, _-_, _≤_}
+use Prim.Native.Nat.{_-_, _≤_}
 use native.Mathlib.Omega.{arith}
 use lib.ListN.{length, length-set}
 use Rattle.numbers.specs.Put.{Put}

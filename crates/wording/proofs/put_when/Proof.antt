@@ -10,9 +10,6 @@ use borrow.Author.Needs.{needs}
 use Rattle.wording.proofs.put_when.Statement.{statement}
 use Rattle.wording.proofs.put_when.Tie as tie
 
--- `wording::put_when` meets its contract: the word, a side, the operator, what stands behind it, line feed. Assumes
--- nothing.
-
 slice-aggregate-put-word : tie.Need-slice-aggregate-put-word
 slice-aggregate-put-word c = search needs
 
