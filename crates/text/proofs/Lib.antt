@@ -1,2 +1,4 @@
 pub mod Words
 pub mod Progress
+pub mod Fronts
+pub mod Writes

@@ -1,16 +1,14 @@
 -- The text that the writer gives a checked pattern.
-use mathlib.Core.Path.{_≡_}
 use mathlib.Core.Bool.{Bool, true, false, not, _||_}
 use mathlib.Core.List.{List, [], _∷_, _++_, map}
 use Prim.Native.Nat.{ℕ, zero, suc, _+_, _-_}
 use lib.Dec.{eqb}
-use lib.ListN.{length, getD}
 use Rattle.numbers.specs.Numbers.{upto}
 use Rattle.patterns.specs.declared.Pattern.{Pattern}
 use Rattle.patterns.specs.declared.Condition.{Condition}
 use Rattle.patterns.specs.Checked.{setOf, isGroup, conditionAt}
 use Rattle.patterns.specs.Comparison.{constantValue}
-use Rattle.form.specs.Form.{Member, Side, Operand, When, Making, firstLetter}
+use Rattle.form.specs.Form.{Member, When, Making, firstLetter}
 use Rattle.form.specs.Form.Operand.{constant, other}
 
 -- variable v by its letter
