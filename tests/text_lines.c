@@ -44,7 +44,8 @@ uint64_t value_of_decimal(struct span decimal) {
 
 /* ---- a line by itself ---- */
 
-/* Cuts a line at its spaces and gives the count of the pieces, of which some may be empty. It keeps the first `most`. */
+/* Cuts a line at its spaces and gives the count of the pieces, of which some may be empty. It keeps the first `most`.
+ */
 static size_t cut(struct span line, struct span *piece, size_t most) {
   size_t count = 0, from = 0;
   for (size_t i = 0; i <= line.length; i++) {
