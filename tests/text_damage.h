@@ -22,6 +22,12 @@ struct damage {
 extern const struct damage byte_damages[], line_damages[], word_damages[], condition_damages[];
 extern const size_t byte_damage_count, line_damage_count, word_damage_count, condition_damage_count;
 
+/* All of them, one behind the other. The first SAFE_DAMAGES are for any text of two bytes or more, also for one that is
+   damaged already; the others are for the text as it was written of the making. */
+enum { SAFE_DAMAGES = 4 };
+size_t damage_count(void);
+const struct damage *damage_at(size_t at);
+
 /* ---- for these files ---- */
 
 #define HARM(name) static size_t name(struct random *r, const struct making *m, struct text *t)

@@ -58,3 +58,13 @@ void replace_word(struct text *t, size_t line, size_t word, const char *words) {
   size_t length, at = word_at(t, line, word, &length);
   splice(t, at, length, words, strlen(words));
 }
+
+size_t damage_count(void) { return byte_damage_count + line_damage_count + word_damage_count + condition_damage_count; }
+
+const struct damage *damage_at(size_t at) {
+  if (at < byte_damage_count) return &byte_damages[at];
+  at -= byte_damage_count;
+  if (at < line_damage_count) return &line_damages[at];
+  at -= line_damage_count;
+  return at < word_damage_count ? &word_damages[at] : &condition_damages[at - word_damage_count];
+}
