@@ -139,7 +139,8 @@ static void run_broken(struct random *r) {
   size_t pattern_len = making_pattern_len(&making);
   write_making_pattern(&making, pattern);
   for (size_t i = pattern_len; i < pattern_len + 16; i++) pattern[i] = (uint8_t)random_next(r);
-  run_write(r, pattern_len, break_pattern(r, &making, pattern, &pattern_len));
+  unsigned faults = break_pattern(r, &making, pattern, &pattern_len);
+  run_write(r, pattern_len, faults);
 }
 
 /* Any bytes as a pattern. */

@@ -79,7 +79,7 @@ static void make_duration(struct random *r, struct making *m) {
                                          "18446744073709551716", "184467440737095516160"};
   m->too_long = chance(r, 12);
   m->cycles = chance(r, 60) ? below(r, 1000) : random_next(r) >> PICK(r, 24, 25, 32, 44);
-  if (chance(r, 10)) m->cycles = ((uint64_t)1 << 40) - 1;
+  if (chance(r, 10)) m->cycles = chance(r, 30) ? 0 : ((uint64_t)1 << 40) - 1;
   if (!m->too_long)
     sprintf(m->duration, "%" PRIu64, m->cycles);
   else if (chance(r, 70))

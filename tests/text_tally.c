@@ -162,8 +162,30 @@ static void demand_faults(int call) {
   }
 }
 
+/* Several counts in one line, each behind its word. */
+static void demand_each(const char *what, const uint64_t *counts, const char *const *words, unsigned count) {
+  uint64_t least = UINT64_MAX;
+  printf("          %s:", what);
+  for (unsigned i = 0; i < count; i++) {
+    printf(" %s %" PRIu64, words[i], counts[i]);
+    if (counts[i] < least) least = counts[i];
+  }
+  printf("\n");
+  demand(least, what, ", the least of these");
+}
+
+static void demand_variables(void) {
+  static char digits[LETTERS - VARIABLES][3];
+  const char *words[LETTERS - VARIABLES];
+  for (unsigned i = 0; i < LETTERS - VARIABLES; i++) {
+    sprintf(digits[i], "%u", (VARIABLES + 1 + i) % 100);
+    words[i] = digits[i];
+  }
+  demand_each("texts refused with 2 for so many variables", text_tally.variables + VARIABLES + 1, words,
+              LETTERS - VARIABLES);
+}
+
 void demand_all_texts_met(void) {
-  char what[80];
   for (int call = 0; call < TEXT_CALLS; call++) {
     demand(text_tally.codes[call][0], text_call_names[call], " accepts");
     demand_faults(call);
@@ -171,14 +193,8 @@ void demand_all_texts_met(void) {
   for (size_t i = 0; i < damage_count(); i++)
     demand(text_tally.refused[i], damage_at(i)->name, ", alone: refused with 14");
   for (int met = 0; met < TEXT_METS; met++) demand(text_tally.met[met], met_names[met], "");
-  for (unsigned n = VARIABLES + 1; n <= LETTERS; n++) {
-    snprintf(what, sizeof what, "texts refused with 2 for %u variables", n);
-    demand(text_tally.variables[n], what, "");
-  }
-  for (unsigned a = 0; a < ATTRIBUTES; a++) {
-    demand(text_tally.attributes[a], "accepted conditions on ", attribute_words[a]);
-    demand(text_tally.second_attributes[a], "accepted conditions that end with ", attribute_words[a]);
-  }
-  for (unsigned o = 0; o < OPERATORS; o++)
-    demand(text_tally.operators[o], "accepted conditions with ", operator_words[o]);
+  demand_variables();
+  demand_each("accepted conditions by attribute", text_tally.attributes, attribute_words, ATTRIBUTES);
+  demand_each("accepted conditions by second attribute", text_tally.second_attributes, attribute_words, ATTRIBUTES);
+  demand_each("accepted conditions by operator", text_tally.operators, operator_words, OPERATORS);
 }
