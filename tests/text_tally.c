@@ -167,7 +167,7 @@ static void demand_each(const char *what, const uint64_t *counts, const char *co
   uint64_t least = UINT64_MAX;
   printf("          %s:", what);
   for (unsigned i = 0; i < count; i++) {
-    printf(" %s %" PRIu64, words[i], counts[i]);
+    printf("%s %s: %" PRIu64, i == 0 ? "" : ",", words[i], counts[i]);
     if (counts[i] < least) least = counts[i];
   }
   printf("\n");
