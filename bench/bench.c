@@ -56,6 +56,25 @@ static uint64_t library_check_block(const struct workload *w, uint8_t *result) {
   return spaldep_check_block(w->block, w->block_len);
 }
 
+/* Writes the pattern as text and reads it again. */
+static uint64_t library_texts(const struct workload *w, uint8_t *result) {
+  static uint8_t text[SPALDEP_TEXT_BYTES_MAX];
+  uint64_t answer = spaldep_write_text(w->pattern, w->pattern_len, text, sizeof text);
+  return spaldep_read_text(text, spaldep_used(answer), result, SPALDEP_PATTERN_BYTES_MAX);
+}
+
+/* Reads a text of a megabyte, all of it: one that has too many conditions. */
+static uint64_t library_long_text(const struct workload *w, uint8_t *result) {
+  static const char first[] = "set a\n", line[] = "when a.core = 0\n", last[] = "within 1\n";
+  enum { FIRST = sizeof first - 1, LINE = sizeof line - 1, LAST = sizeof last - 1, LINES = 65536 };
+  static uint8_t text[FIRST + LINE * LINES + LAST];
+  (void)w;
+  memcpy(text, first, FIRST);
+  for (size_t i = 0; i < LINES; i++) memcpy(text + FIRST + LINE * i, line, LINE);
+  memcpy(text + FIRST + LINE * LINES, last, LAST);
+  return spaldep_read_text(text, sizeof text, result, SPALDEP_PATTERN_BYTES_MAX);
+}
+
 /* ---- times ---- */
 
 /* Seconds a call, over `calls` calls. */
@@ -146,9 +165,11 @@ static bool print_stack(const struct workload *w) {
   size_t without = painted(NULL, w), forward = painted(library_forward, w) - without;
   size_t starts = painted(library_starts, w) - without, listing = painted(library_listing, w) - without;
   size_t checks = larger(painted(library_check_pattern, w), painted(library_check_block, w)) - without;
-  printf("%-24s %10zu %10zu %10zu %10zu %10zu %10zu\n", w->name, forward, starts, listing, checks,
+  size_t texts = larger(painted(library_texts, w), painted(library_long_text, w)) - without;
+  printf("%-24s %10zu %10zu %10zu %10zu %10zu %10zu %10zu\n", w->name, forward, starts, listing, checks, texts,
          painted(plain_forward, w) - without, painted(plain_starts, w) - without);
-  if (larger(forward, larger(listing, checks)) <= SPALDEP_STACK_FORWARD && starts <= SPALDEP_STACK_START_BY_START)
+  if (larger(larger(forward, texts), larger(listing, checks)) <= SPALDEP_STACK_FORWARD &&
+      starts <= SPALDEP_STACK_START_BY_START)
     return true;
   printf("%-24s FAILED: include/spaldep.h says %u, and %u for start-by-start\n", w->name, SPALDEP_STACK_FORWARD,
          SPALDEP_STACK_START_BY_START);
@@ -160,8 +181,8 @@ static bool print_stacks(void) {
   bool all = true;
   make_workload(0, BY_CLASS, &w);
   painted(library_forward, &w); /* the first call of a function of the C library takes stack to find it */
-  printf("%-24s %10s %10s %10s %10s %10s %10s\n", "stack of a call, bytes", "forward", "starts", "listing", "checks",
-         "C forward", "C starts");
+  printf("%-24s %10s %10s %10s %10s %10s %10s %10s\n", "stack of a call, bytes", "forward", "starts", "listing",
+         "checks", "texts", "C forward", "C starts");
   for (unsigned i = 0; i <= WORKLOADS; i++) {
     make_workload(i, BY_CLASS, &w);
     all = print_stack(&w) && all;
