@@ -47,6 +47,19 @@ static void run_bench_text(void) {
   end_text_case();
 }
 
+/* The span that examples/upload.txt has in examples/upload.block: 2 1@0 0@1 2@2 2@4 3@7. */
+static void find_upload_span(const struct file *pattern) {
+  static const uint16_t span[] = {0x2005, 0x1000, 0x0001, 0x2002, 0x2004, 0x3007};
+  static uint8_t work[SPALDEP_WORK_BYTES(SPALDEP_LIMIT_MAX)], result[SPALDEP_RESULT_BYTES_MAX];
+  static struct file block;
+  load("examples/upload.block", &block);
+  uint64_t answer = spaldep_forward(pattern->bytes, pattern->length, block.bytes, block.length, SPALDEP_LIMIT_MAX, work,
+                                    sizeof work, result, sizeof result);
+  bool found = spaldep_code(answer) == 0 && spaldep_readings(answer) == 1 && spaldep_used(answer) == 6;
+  for (size_t i = 0; i < 6; i++) found = found && spaldep_number(result, i) == span[i];
+  if (!found) fail_text("gives a pattern that does not find its span");
+}
+
 /* A text with names of its own: written again it has others, and the same pattern. */
 static void run_upload_text(void) {
   static struct file text, pattern, again;
@@ -55,15 +68,16 @@ static void run_upload_text(void) {
   uint64_t answer = compare_read_text(text.bytes, text.length, SPALDEP_PATTERN_BYTES_MAX);
   pattern.length = spaldep_used(answer);
   memcpy(pattern.bytes, written, pattern.length);
-  if (spaldep_code(answer) != 0) fail_text("is refused");
+  if (spaldep_code(answer) != 0) fail_text("refuses the example");
+  find_upload_span(&pattern);
   expect_checked(pattern.bytes, pattern.length);
   answer = compare_write_text(pattern.bytes, pattern.length, SPALDEP_TEXT_BYTES_MAX);
   again.length = spaldep_used(answer);
   memcpy(again.bytes, written, again.length);
-  if (again.length != text.length) fail_text("is written with another length");
+  if (again.length != text.length) fail_text("writes another length");
   if (compare_read_text(again.bytes, again.length, SPALDEP_PATTERN_BYTES_MAX) != success(pattern.length) ||
       !wrote(&pattern))
-    fail_text("is another pattern once it is written again");
+    fail_text("gives another pattern of what was written");
   end_text_case();
 }
 

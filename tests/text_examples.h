@@ -3,7 +3,8 @@
 #ifndef TEXT_EXAMPLES_H
 #define TEXT_EXAMPLES_H
 
-/* examples/bench.txt is examples/bench.pattern, and written as it is; examples/upload.txt is a pattern. */
+/* examples/bench.txt is examples/bench.pattern, and written as it is; examples/upload.txt finds its span in
+   examples/upload.block. */
 void run_example_texts(void);
 
 /* Of examples/bench.txt: each byte made each other one, dropped and doubled, each length, each length of the slice; and
