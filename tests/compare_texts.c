@@ -108,8 +108,7 @@ static void run_damaged(struct random *r) {
   text_tally.met[TEXT_DAMAGED_ACCEPTED] += spaldep_code(answer) == 0;
   if (spaldep_code(answer) == 0) expect_checked(written, spaldep_used(answer));
   if (two) return;
-  text_tally.damaged[at]++;
-  text_tally.refused[at] += spaldep_code(answer) == SPALDEP_REFUSED_TEXT;
+  text_tally.damaged[at] += spaldep_code(answer) == SPALDEP_REFUSED_TEXT;
   if (place == NO_PLACE) return;
   if (spaldep_code(answer) != SPALDEP_REFUSED_TEXT || spaldep_place(answer) != place)
     fail_text("does not give the line that was damaged");
@@ -219,6 +218,7 @@ int main(int argc, char **argv) {
     fprintf(stderr, "usage: texts SEED COUNT | texts case SEED\n");
     return 2;
   }
+  if (damage_count() > MOST_DAMAGES) abort();
   text_calls_ready();
   if (strcmp(argv[1], "case") == 0) return run_one(number(argv[2]));
   return run_all(number(argv[1]), number(argv[2]));

@@ -191,7 +191,7 @@ void demand_all_texts_met(void) {
     demand_faults(call);
   }
   for (size_t i = 0; i < damage_count(); i++)
-    demand(text_tally.refused[i], damage_at(i)->name, ", alone: refused with 14");
+    demand(text_tally.damaged[i], damage_at(i)->name, ", alone: refused with 14");
   for (int met = 0; met < TEXT_METS; met++) demand(text_tally.met[met], met_names[met], "");
   demand_variables();
   demand_each("accepted conditions by attribute", text_tally.attributes, attribute_words, ATTRIBUTES);

@@ -68,7 +68,7 @@ enum { MOST_DAMAGES = 80 };
 
 extern struct text_tally {
   uint64_t calls[TEXT_CALLS], codes[TEXT_CALLS][256], pairs[TEXT_CALLS][MOST_FAULTS][MOST_FAULTS];
-  uint64_t damaged[MOST_DAMAGES], refused[MOST_DAMAGES]; /* by one kind alone, and of these refused with 14 */
+  uint64_t damaged[MOST_DAMAGES]; /* by one kind alone, and refused with 14 */
   uint64_t met[TEXT_METS];
   uint64_t variables[LETTERS + 1];                                                      /* refused for so many */
   uint64_t attributes[ATTRIBUTES], second_attributes[ATTRIBUTES], operators[OPERATORS]; /* accepted texts with them */

@@ -156,7 +156,8 @@ static size_t text_of(const struct pattern *p, char *to) {
   }
   for (unsigned i = 0; i < p->c; i++) {
     const struct condition *k = &p->condition[i];
-    at += sprintf(at, "when %c.%s %s ", letter(k->variable), attribute_words[k->attribute], operator_words[k->operator]);
+    const char *attribute = attribute_words[k->attribute], *operator_word = operator_words[k->operator];
+    at += sprintf(at, "when %c.%s %s ", letter(k->variable), attribute, operator_word);
     if (k->form == WITH_CONSTANT)
       at += sprintf(at, "%" PRId64 "\n", k->constant);
     else
