@@ -56,11 +56,23 @@ static uint64_t library_check_block(const struct workload *w, uint8_t *result) {
   return spaldep_check_block(w->block, w->block_len);
 }
 
-/* The text of the pattern, and the pattern of that text. */
+/* Writes the pattern as text and reads it again. */
 static uint64_t library_texts(const struct workload *w, uint8_t *result) {
   static uint8_t text[SPALDEP_TEXT_BYTES_MAX];
   uint64_t answer = spaldep_write_text(w->pattern, w->pattern_len, text, sizeof text);
-  return spaldep_read_text(text, spaldep_used(answer), result, SPALDEP_RESULT_BYTES_MAX);
+  return spaldep_read_text(text, spaldep_used(answer), result, SPALDEP_PATTERN_BYTES_MAX);
+}
+
+/* Reads a text of a megabyte, all of it: one that has too many conditions. */
+static uint64_t library_long_text(const struct workload *w, uint8_t *result) {
+  static const char first[] = "set a\n", line[] = "when a.core = 0\n", last[] = "within 1\n";
+  enum { FIRST = sizeof first - 1, LINE = sizeof line - 1, LAST = sizeof last - 1, LINES = 65536 };
+  static uint8_t text[FIRST + LINE * LINES + LAST];
+  (void)w;
+  memcpy(text, first, FIRST);
+  for (size_t i = 0; i < LINES; i++) memcpy(text + FIRST + LINE * i, line, LINE);
+  memcpy(text + FIRST + LINE * LINES, last, LAST);
+  return spaldep_read_text(text, sizeof text, result, SPALDEP_PATTERN_BYTES_MAX);
 }
 
 /* ---- times ---- */
@@ -153,7 +165,7 @@ static bool print_stack(const struct workload *w) {
   size_t without = painted(NULL, w), forward = painted(library_forward, w) - without;
   size_t starts = painted(library_starts, w) - without, listing = painted(library_listing, w) - without;
   size_t checks = larger(painted(library_check_pattern, w), painted(library_check_block, w)) - without;
-  size_t texts = painted(library_texts, w) - without;
+  size_t texts = larger(painted(library_texts, w), painted(library_long_text, w)) - without;
   printf("%-24s %10zu %10zu %10zu %10zu %10zu %10zu %10zu\n", w->name, forward, starts, listing, checks, texts,
          painted(plain_forward, w) - without, painted(plain_starts, w) - without);
   if (larger(larger(forward, texts), larger(listing, checks)) <= SPALDEP_STACK_FORWARD &&

@@ -15,8 +15,9 @@
  *               and keeps no pointer. A slice is a pointer and its length in bytes. `const` slices are only read.
  *               No slice needs to be aligned.
  *   Pointers    must not be null, also where the length is 0; any address in the program serves for length 0.
- *   Overlap     Slices that are written (listing, work, result) must not overlap any other slice of the same call.
- *               The pattern and the block may overlap each other.
+ *   Overlap     Slices that are written (listing, work, result, the pattern of spaldep_read_text, the text of
+ *               spaldep_write_text) must not overlap any other slice of the same call. Slices that are only read may
+ *               overlap each other.
  *   State       There is none: the same bytes get the same answer. Calls may run side by side, in threads or from
  *               several cores, as long as no slice that one of them writes overlaps a slice of another.
  *   Input       Any bytes at all get an answer, and every call ends: nothing has to be checked first. The readings of
@@ -28,14 +29,16 @@
  * The answer is one 64-bit number, taken apart by the functions below:
  *
  *   spaldep_code      0: done. Else the number of a refusal, SPALDEP_REFUSED_..
- *   spaldep_place     of a refusal: the variable, condition or record that it is about, from 0; otherwise 0
- *   spaldep_used      of success: how many numbers, steps or records, as each call says; 0 with a refusal
+ *   spaldep_place     of a refusal: the variable, condition, record or line that it is about, from 0; otherwise 0. A
+ *                     line beyond 16,777,215 is given as that
+ *   spaldep_used      of success: how many numbers, steps, records or bytes, as each call says; 0 with a refusal
  *   spaldep_readings  of a pass that succeeded: the readings reported; 0 otherwise
  *   spaldep_peak      of a forward pass that succeeded: how many readings were live at once, at most; 0 otherwise
  *
- * Where several refusals hold, the one that comes first in this order is given: a pattern under 8 bytes, its header,
- * its length, its first bad variable, its first bad condition; the block's length, its first bad record; limit and
- * lent memory; then what the pass itself meets.
+ * Where several refusals hold, the one that comes first in this order is given: the first bad line of a text; a pattern
+ * under 8 bytes, its header, its length, its first bad variable, its first bad condition; the block's length, its first
+ * bad record; limit and lent memory; then what the pass itself meets. A slice too short for a listing, a text or the
+ * pattern of a text comes behind all that is refused of the pattern.
  */
 #ifndef SPALDEP_H
 #define SPALDEP_H
@@ -51,8 +54,10 @@ extern "C" {
 enum {
   SPALDEP_DONE = 0,
   SPALDEP_REFUSED_PATTERN_LENGTH = 1,  /* no whole header, or not as long as its header says; place 0 */
-  SPALDEP_REFUSED_HEADER = 2,          /* edition not 1, n not 1 to 12, c over 32, or zero bits set; place 0 */
-  SPALDEP_REFUSED_VARIABLE = 3,        /* a variable's byte breaks its rules; place: the first such variable */
+  SPALDEP_REFUSED_HEADER = 2,          /* edition not 1, n not 1 to 12, c over 32, or zero bits set; of a text over 12
+                                          names, over 32 conditions or a duration over 40 bits; place 0 */
+  SPALDEP_REFUSED_VARIABLE = 3,        /* a variable's byte breaks its rules, or a text has more than 8 sets or 6 names
+                                          in a set; place: the first such variable */
   SPALDEP_REFUSED_CONDITION = 4,       /* on either side a variable not under n or an attribute over 5, an operator
                                           over 4, or zero bits set; place: the first such condition */
   SPALDEP_REFUSED_BLOCK_LENGTH = 5,    /* block not whole records, or over 4,096 of them; place 0 */
@@ -64,9 +69,11 @@ enum {
   SPALDEP_REFUSED_BINDINGS = 9,        /* a reading of 32 bindings must take one more; place: the first such record */
   SPALDEP_REFUSED_LIVE = 10,           /* more readings live than the limit; place: the record after which */
   SPALDEP_REFUSED_RESULT_ROOM = 11,    /* the report needs more numbers than the result slice has; place 0 */
-  SPALDEP_REFUSED_LISTING_ROOM = 12,   /* the automaton has more steps than the listing slice has; place 0 */
-  SPALDEP_REFUSED_BOUND_TWICE = 13     /* a reading binds a record twice; place: the record. It has a number and
+  SPALDEP_REFUSED_LISTING_ROOM = 12,   /* the slice is too short: for the automaton's steps, for a pattern as text, or
+                                          for the pattern of a text; place 0 */
+  SPALDEP_REFUSED_BOUND_TWICE = 13,    /* a reading binds a record twice; place: the record. It has a number and
                                           does not arise. */
+  SPALDEP_REFUSED_TEXT = 14            /* a text outside the form; place: the first bad or missing line */
 };
 
 /* How a reported reading was closed: spaldep_mark. */
@@ -112,6 +119,7 @@ enum {
 #define SPALDEP_STEP_BYTES 8u                             /* one step of a listing */
 #define SPALDEP_STEPS_MAX 768u                            /* the most steps that an automaton has */
 #define SPALDEP_BINDINGS_MAX 32u                          /* the most bindings of a reading */
+#define SPALDEP_TEXT_BYTES_MAX 1017u                      /* the longest text of a pattern, as the writer writes it */
 
 /* Stack that a call needs at most, in bytes: what bench/run measured, rounded up; tests/run holds the library to it. */
 #define SPALDEP_STACK_FORWARD 4096u
@@ -180,6 +188,41 @@ uint64_t spaldep_check_block(const uint8_t *block, size_t block_len);
  * Memory   After success every byte behind the steps is 0; after a refusal the whole slice is.
  */
 uint64_t spaldep_list_automaton(const uint8_t *pattern, size_t pattern_len, uint8_t *listing, size_t listing_len);
+
+/*
+ * Reads a pattern from text, as people type it, and writes its bytes into `pattern`. The form, line by line:
+ *
+ *   set a b+               one line or more, one a set: its variables, a plus behind a group variable. A name is a
+ *                          small letter and stands once in all these lines; variables are numbered in that order.
+ *   when a.core = b.core   none or more, one a condition: an attribute (core, type, class, slot, amount, wave), an
+ *   when a.amount >= -4    operator (=, <, <=, >, >=), and another attribute or a constant. Beside amount a constant is
+ *                          -2147483648 to 2147483647, beside any other attribute 0 to 4294967295.
+ *   within 100             the last line, always there: the duration in cycles
+ *
+ * One space stands between two words and none elsewhere, a line feed (byte 10) behind every line, the last one too,
+ * and nothing behind the last line. Numbers are decimal, without leading zeros and without a minus before 0. All else
+ * is outside the form: tabs, carriage returns, capitals, empty lines, comments.
+ *
+ *   pattern   SPALDEP_PATTERN_BYTES_MAX bytes are enough for every text
+ *
+ * Answers  used: the bytes written, which pass spaldep_check_pattern. Or a refusal: 14, whose place is the first line,
+ *          from 0, that is bad where it stands or that is missing; then 2 for more than 12 variables, more than 32
+ *          conditions or a duration of 2^40 or more; then 3 for a variable in a set beyond the eighth, or the seventh
+ *          of its set; then 12. readings and peak are 0.
+ * Memory   After success every byte of pattern behind the bytes written is 0; after a refusal the whole slice is.
+ */
+uint64_t spaldep_read_text(const uint8_t *text, size_t text_len, uint8_t *pattern, size_t pattern_len);
+
+/*
+ * Writes a pattern as text in the form of spaldep_read_text, its variables named a, b, c by their number. Reading what
+ * was written gives the same pattern bytes. A text that fills its slice has no zero byte behind it.
+ *
+ *   text     SPALDEP_TEXT_BYTES_MAX bytes are enough for every pattern
+ *
+ * Answers  used: the bytes written; or a refusal 1 to 4 of the pattern, or 12. readings and peak are 0.
+ * Memory   After success every byte of text behind the bytes written is 0; after a refusal the whole slice is.
+ */
+uint64_t spaldep_write_text(const uint8_t *pattern, size_t pattern_len, uint8_t *text, size_t text_len);
 
 /*
  * The forward pass: one way through the block, with at most `limit` readings live after a record.

@@ -12,19 +12,8 @@
 #include <stddef.h>
 #include <stdint.h>
 
+#include "chance.h"
 #include "merged.h"
-
-struct random {
-  uint64_t state;
-};
-
-uint64_t random_next(struct random *r);
-unsigned below(struct random *r, unsigned bound);                /* 0 to bound - 1 */
-unsigned between(struct random *r, unsigned low, unsigned high); /* low to high */
-bool chance(struct random *r, unsigned percent);
-unsigned pick(struct random *r, const unsigned *from, size_t count);
-#define PICK(r, ...) \
-  pick(r, (const unsigned[]){__VA_ARGS__}, sizeof((const unsigned[]){__VA_ARGS__}) / sizeof(unsigned))
 
 enum { PATTERN_ROOM = 1024, BLOCK_ROOM = 4098 * 16 };
 
