@@ -9,13 +9,15 @@ use Rattle.numbers.specs.Numbers.{written}
 use Rattle.numbers.specs.Bytes.{wordBytes}
 use Rattle.numbers.specs.Put.{Put}
 use Rattle.numbers.proofs.Put.{put-then}
-use Rattle.form.specs.Form.{When, Making, names}
+use Rattle.form.specs.Form.{Member, When, Making, names}
 use Rattle.form.specs.Packed.{headerBits, whenBits, memberBytes, patternBytes, Fits}
-use Rattle.form.specs.Items.{itemsOf, setsIn, whensIn, durationIn}
+use Rattle.form.specs.Items.{itemsOf, setsIn}
+use Rattle.form.proofs.Making.{flat-map, sets-items, whens-items, duration-items}
 use Rattle.form.proofs.WordBytes.{word-length}
 use Rattle.form.proofs.Sizes.{words-length}
 use Rattle.drafts.specs.declared.Draft.{Draft}
-use Rattle.drafts.specs.Drafts.{Small, DraftOf}
+use Rattle.drafts.specs.Drafts.{Small, Holds, DraftOf}
+use Rattle.words.specs.Words.{large}
 use Rattle.text.specs.Texts.{draftBytes}
 use Rattle.text.specs.Fitting.{DraftFits}
 use Rattle.text.proofs.Words.{put-written}
@@ -54,3 +56,48 @@ module _ (d : Draft) (s : Small d) (f : DraftFits d) where
           let whole = put-then header-put (put-then q p) in
           (subst (λ (w : ℕ). Put start after 0 (wordBytes w ++ (take (d .n) (d .variables) ++ flatMap wordBytes (take (d .c) (d .conditions)))) r) h whole,
           omega (arith, q .ends, p .ends, variables-length, conditions-length, f .few, f .few-conditions))
+
+-- ## The text that a draft tells of
+
+module _ (m : Making) (d : Draft) (o : DraftOf (itemsOf m) d) where
+  told : Holds (m .sets) (m .whens) d
+  told =
+      subst (λ (s : List (List Member)). Holds s (m .whens) d) (sets-items m)
+      (subst (λ (w : List When). Holds (setsIn (itemsOf m)) w d) (whens-items m) (o .holds))
+
+  lasts : d .duration ≡ min (m .duration) large
+  lasts = o .duration ∙ ap (λ (n : ℕ). min n large) (duration-items m)
+
+  pub text-fits : DraftFits d → Fits m
+  text-fits f =
+      let h = told in
+      record {
+        few = omega (arith, h .n, f .few);
+        few-conditions = omega (arith, h .c, f .few-conditions);
+        short = omega (arith, lasts, f .short);
+      }
+
+  pub draft-fits : Fits m → DraftFits d
+  draft-fits f =
+      let h = told in
+      record {
+        few = omega (arith, h .n, f .few);
+        few-conditions = omega (arith, h .c, f .few-conditions);
+        short = omega (arith, lasts, f .short);
+      }
+
+  pub draft-bytes : Fits m → draftBytes d ≡ patternBytes m
+  unfolding draftBytes patternBytes
+  draft-bytes f =
+      let h = told in
+      let n : d .n ≡ length (names (m .sets)) = omega (arith, h .n, f .few) in
+      let c : d .c ≡ length (m .whens) = omega (arith, h .c, f .few-conditions) in
+      let t : d .duration ≡ m .duration = omega (arith, lasts, f .short) in
+      let v : take (d .n) (d .variables) ≡ memberBytes 1 (m .sets) =
+          ap (λ (k : ℕ). take k (d .variables)) n ∙ h .variables (f .few)
+      in
+      let w : take (d .c) (d .conditions) ≡ map (whenBits (names (m .sets))) (m .whens) =
+          ap (λ (k : ℕ). take k (d .conditions)) c ∙ h .conditions (f .few) (f .few-conditions)
+      in
+      ap₂ _++_ (λ i. wordBytes (headerBits (n i) (c i) (t i)))
+      (ap₂ _++_ v (ap (flatMap wordBytes) w ∙ flat-map wordBytes (whenBits (names (m .sets))) (m .whens)))
