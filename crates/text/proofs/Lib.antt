@@ -1,2 +1,4 @@
 pub mod Words
 pub mod DraftBytes
+pub mod Copied
+pub mod Answered
