@@ -1,6 +1,6 @@
 -- Words put behind one another. Assumes nothing.
 use mathlib.Core.Path.{_≡_, _∙_, refl, sym, ap, subst}
-use mathlib.Core.List.{List, [], _∷_, _++_, flatMap, append-assoc, append-nil}
+use mathlib.Core.List.{List, [], _∷_, _++_, flatMap, append-nil}
 use Prim.Native.Nat.{ℕ, zero, suc, _+_, _-_, _*_, _≤_, _<_}
 use native.Mathlib.Numerals.{add-one}
 use native.Mathlib.Omega.{arith}
@@ -10,6 +10,7 @@ use Rattle.numbers.specs.Numbers.{written}
 use Rattle.numbers.specs.Bytes.{wordBytes}
 use Rattle.numbers.specs.Put.{Put}
 use Rattle.numbers.proofs.Put.{put-then}
+use Rattle.form.proofs.Making.{flat-append}
 use Rattle.form.proofs.WordBytes.{word-length}
 
 pub put-written :
@@ -30,13 +31,6 @@ put-written memory at bytes h =
     whole : (x y : ℕ) → x ≡ at + length bytes → y ≡ length memory - (at + length bytes) → x + y ≡ length memory
     whole x y e f = omega arith
 
-pub flat-behind : (a b : List ℕ) → flatMap wordBytes (a ++ b) ≡ flatMap wordBytes a ++ flatMap wordBytes b
-unfolding flatMap
-flat-behind [] b = refl
-flat-behind (x ∷ a) b =
-    ap (λ (l : List ℕ). wordBytes x ++ l) (flat-behind a b)
-    ∙ sym (append-assoc (wordBytes x) (flatMap wordBytes a) (flatMap wordBytes b))
-
 -- one word more of a list
 pub flat-more :
     (l : List ℕ) (i : ℕ) → i < length l
@@ -45,7 +39,7 @@ unfolding flatMap
 flat-more l i h =
     ap (λ (j : ℕ). flatMap wordBytes (take j l)) (add-one i)
     ∙ ap (flatMap wordBytes) (take-suc l i 0 h)
-    ∙ flat-behind (take i l) (getD l i 0 ∷ [])
+    ∙ flat-append wordBytes (take i l) (getD l i 0 ∷ [])
     ∙ ap (λ (r : List ℕ). flatMap wordBytes (take i l) ++ r) (append-nil (wordBytes (getD l i 0)))
 
 -- a turn of the loop that puts words
