@@ -1,8 +1,8 @@
 // A text read line by line: a draft holds what the lines so far have told.
 ghost use mathlib.Core.Path.{_≡_};
-ghost use mathlib.Core.List.{List, [], _∷_, _++_};
-ghost use Prim.Native.Nat.{_+_, _*_, _-_, _^_, _≤_, _<_, min};
 ghost use mathlib.Core.Bool.{false};
+ghost use mathlib.Core.List.{List, [], _∷_, _++_};
+ghost use Prim.Native.Nat.{_+_, _*_, _-_, _^_, _≤_, min};
 ghost use Rattle.patterns.specs.Patterns.{lastOperator};
 ghost use Rattle.form.specs.Form.{IsLetter, space, setWord, whenWord, withinWord};
 ghost use Rattle.form.specs.Items.{Item, start, Valid};
@@ -293,7 +293,7 @@ fn no_code() -> Coded
     Coded { ok: false, bits: 0 }
 }
 
-// A condition whose last word is this.
+// A condition by its last word.
 fn operand(places: &[u8; LETTERS], left: words::Sided, operator: u8, word: &[u8]) -> Coded
     requires { ⌜ Places (now places) × SideRead left × (operator ≤ lastOperator) ⌝ }
     ensures { λ r. ⌜ OperandOf (now (places .entry)) left operator (now (word .entry)) r ⌝ }
@@ -332,7 +332,7 @@ fn comparison(places: &[u8; LETTERS], left: words::Sided, line: &[u8]) -> Coded
     operand(places, left, operator, &line[next..])
 }
 
-// A condition, its three words.
+// A condition by its three words.
 fn condition(places: &[u8; LETTERS], line: &[u8]) -> Coded
     requires { ⌜ Places (now places) ⌝ }
     ensures { λ r. ⌜ ConditionOf (now (places .entry)) (now (line .entry)) r ⌝ }
