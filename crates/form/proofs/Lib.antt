@@ -5,7 +5,7 @@ pub mod Making
 pub mod OneLine
 pub mod OneMeaning
 pub mod FirstBad
-pub mod Promises
+pub mod OneRead
 pub mod WrongReaders
 pub mod WordBytes
 pub mod Fields

@@ -14,7 +14,7 @@ use Rattle.form.specs.Form.{Making, InForm, names, textOf, firstLetter}
 use Rattle.form.specs.Packed.{patternBytes}
 use Rattle.form.specs.Promises.{written, Names, ReadPromise, WritePromise}
 use Rattle.form.proofs.Judged.{variables-of}
-use Rattle.form.proofs.Promises.{form-one, read-promise-one}
+use Rattle.form.proofs.OneRead.{form-one, read-promise-one}
 use Rattle.form.proofs.OneWritten.{write-promise-one}
 
 -- bytes at the beginning of a slice, and zeros behind them

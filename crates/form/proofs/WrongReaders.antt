@@ -33,7 +33,7 @@ use Rattle.form.proofs.Making.{makingIn, making-in, valid-front}
 use Rattle.form.proofs.OneLine.{isInked, areInked, inked-words, wordsOf, firstOf, line-of, words-plain}
 use Rattle.form.proofs.OneMeaning.{lettered-start, lettered-end}
 use Rattle.form.proofs.FirstBad.{anyName, shortest, shortest-valid, bad-line, missing-line}
-use Rattle.form.proofs.Promises.{formed, refuses}
+use Rattle.form.proofs.OneRead.{formed, refuses}
 
 -- ## One that refuses all
 

@@ -4,7 +4,8 @@ use mathlib.Core.Path.{_≡_, _∙_, sym, ap}
 use mathlib.Core.List.{List}
 use Prim.Native.Nat.{ℕ}
 use Rattle.automaton.proofs.Promise.{listing-promise-unique}
-use Rattle.form.proofs.OneAnswer.{read-promise-one, write-promise-one}
+use Rattle.form.proofs.OneRead.{read-promise-one}
+use Rattle.form.proofs.OneWritten.{write-promise-one}
 use Rattle.rule.proofs.Calls.{start-by-start-one, forward-one}
 use Rattle.spaldep.specs.Packed.{packedAnswer}
 use Rattle.spaldep.specs.Host.{StartByStartHost, ForwardHost, ListingHost, ReadHost, WriteHost}

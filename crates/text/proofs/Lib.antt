@@ -1,7 +1,6 @@
 pub mod Words
 pub mod Progress
 pub mod Fronts
-pub mod Writes
 pub mod DraftBytes
-pub mod Copied
-pub mod Answered
+pub mod ReadAnswers
+pub mod WriteAnswers

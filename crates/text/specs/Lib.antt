@@ -1,3 +1,4 @@
 pub mod LineEnds
 pub mod Texts
 pub mod Fitting
+pub mod Given

@@ -1,22 +1,25 @@
 // The text form of patterns: texts read into pattern bytes, and written from them.
 ghost use mathlib.Core.Path.{_≡_};
-ghost use mathlib.Core.List.{_++_, flatMap};
-ghost use Prim.Native.Nat.{_+_, _≤_, min};
-ghost use lib.ListN.{length, take, drop, replicate};
+ghost use mathlib.Core.List.{flatMap};
+ghost use Prim.Native.Nat.{_+_, _*_, _≤_, min};
+ghost use lib.ListN.{length, take, replicate};
 ghost use Rattle.numbers.specs.Put.{Put};
 ghost use Rattle.numbers.specs.Bytes.{wordBytes};
-ghost use Rattle.patterns.specs.Patterns.{mostVariables, mostConditions};
+ghost use Rattle.patterns.specs.Patterns.{headerBytes, mostVariables, conditionBytes, mostConditions};
 ghost use Rattle.form.specs.Packed.{headerBits};
-ghost use Rattle.form.specs.Promises.{ReadPromise, WritePromise, written, mostPlace};
+ghost use Rattle.form.specs.Promises.{ReadPromise, WritePromise, written, mostPlace, mostText};
 ghost use Rattle.drafts.specs.Drafts.{Small};
 ghost use Rattle.text.specs.LineEnds.{LineEnd};
-ghost use Rattle.text.specs.Texts.{TextRead, draftBytes};
+ghost use Rattle.text.specs.Texts.{TextRead, draftBytes, mostBytes};
 ghost use Rattle.text.specs.Fitting.{DraftFits, Measured};
+ghost use Rattle.text.specs.Given.{Refused, Given, Judged};
 use drafts::Draft;
 use records::Answer;
 
 // The longest pattern.
-const MOST_BYTES: usize = 276;
+const MOST_BYTES: usize = patterns::HEADER_BYTES
+    + patterns::MOST_VARIABLES
+    + patterns::CONDITION_BYTES * patterns::MOST_CONDITIONS;
 
 // What the lines of a text tell: the first bad or missing one, or all that they hold.
 pub struct Reading {
@@ -84,22 +87,22 @@ fn header_bits(d: Draft) -> u64
 
 // The bytes of the variables.
 fn put_variables(d: Draft, bytes: &mut [u8]) -> usize
-    requires { ⌜ (length (d .variables) ≡ mostVariables) × (d .n ≤ mostVariables) × (276 ≤ length (now bytes)) ⌝ }
-    ensures { λ r. ⌜ Put (now (bytes .entry)) (now (bytes .exit)) 8 (take (d .n) (d .variables)) r ⌝ }
+    requires { ⌜ (length (d .variables) ≡ mostVariables) × (d .n ≤ mostVariables) × (mostBytes ≤ length (now bytes)) ⌝ }
+    ensures { λ r. ⌜ Put (now (bytes .entry)) (now (bytes .exit)) headerBytes (take (d .n) (d .variables)) r ⌝ }
 {
     let n = d.n as usize;
     let mut v = 0;
     while v < n {
-        bytes[8 + v] = d.variables[v];
+        bytes[patterns::HEADER_BYTES + v] = d.variables[v];
         v += 1;
     }
-    8 + n
+    patterns::HEADER_BYTES + n
 }
 
 // The bytes of the conditions.
 fn put_conditions(d: Draft, bytes: &mut [u8], at: usize) -> usize
     requires { ⌜ (length (d .conditions) ≡ mostConditions) × (d .c ≤ mostConditions)
-        × (at + 256 ≤ length (now bytes)) ⌝ }
+        × (at + conditionBytes * mostConditions ≤ length (now bytes)) ⌝ }
     ensures { λ r. ⌜ Put (now (bytes .entry)) (now (bytes .exit)) at (flatMap wordBytes (take (d .c) (d .conditions))) r ⌝ }
 {
     let c = d.c as usize;
@@ -107,7 +110,7 @@ fn put_conditions(d: Draft, bytes: &mut [u8], at: usize) -> usize
     let mut i = 0;
     while i < c {
         numbers::store_word(bytes, end, d.conditions[i]);
-        end += 8;
+        end += patterns::CONDITION_BYTES;
         i += 1;
     }
     end
@@ -115,8 +118,8 @@ fn put_conditions(d: Draft, bytes: &mut [u8], at: usize) -> usize
 
 // The pattern of a draft, from the beginning of the memory on.
 fn put_draft(d: Draft, bytes: &mut [u8]) -> usize
-    requires { ⌜ Small d × DraftFits d × (276 ≤ length (now bytes)) ⌝ }
-    ensures { λ r. ⌜ Put (now (bytes .entry)) (now (bytes .exit)) 0 (draftBytes d) r × (r ≤ 276) ⌝ }
+    requires { ⌜ Small d × DraftFits d × (mostBytes ≤ length (now bytes)) ⌝ }
+    ensures { λ r. ⌜ Put (now (bytes .entry)) (now (bytes .exit)) 0 (draftBytes d) r × (r ≤ mostBytes) ⌝ }
 {
     numbers::store_word(bytes, 0, header_bits(d));
     let variables = put_variables(d, bytes);
@@ -127,10 +130,10 @@ fn put_draft(d: Draft, bytes: &mut [u8]) -> usize
 fn is_too_large(d: Draft) -> bool
     ensures { λ r. ⌜ Measured d r ⌝ }
 {
-    if 12 < d.n {
+    if patterns::MOST_VARIABLES < d.n as usize {
         return true;
     }
-    if 32 < d.c {
+    if patterns::MOST_CONDITIONS < d.c as usize {
         return true;
     }
     if words::LARGE <= d.duration {
@@ -149,6 +152,14 @@ fn place(line: usize) -> u32
     line as u32
 }
 
+// A refusal, and the slice all 0.
+fn refuse(memory: &mut [u8], code: u8, place: u32) -> Answer
+    ensures { λ r. ⌜ Refused (length (now (memory .entry))) code place r (now (memory .exit)) ⌝ }
+{
+    numbers::clear(memory);
+    records::refusal(code, place)
+}
+
 fn success(bytes: usize) -> Answer
     ensures { λ r. ⌜ r ≡ written bytes ⌝ }
 {
@@ -161,54 +172,57 @@ fn success(bytes: usize) -> Answer
     }
 }
 
-// Bytes copied to the beginning of lent memory.
-fn copy(bytes: &[u8], memory: &mut [u8])
-    requires { ⌜ length (now bytes) ≤ length (now memory) ⌝ }
-    ensures { λ r. ⌜ now (memory .exit)
-        ≡ now (bytes .entry) ++ drop (length (now (bytes .entry))) (now (memory .entry)) ⌝ }
+// Bytes for the caller, with 0 behind them, or refusal 12 where they do not fit.
+fn give(memory: &mut [u8], bytes: &[u8]) -> Answer
+    ensures { λ r. ⌜ Given (now (bytes .entry)) (length (now (memory .entry))) r (now (memory .exit)) ⌝ }
 {
-    let mut i = 0;
-    while i < bytes.len() {
-        memory[i] = bytes[i];
-        i += 1;
+    if memory.len() < bytes.len() {
+        return refuse(memory, 12, 0);
     }
+    let end = numbers::put_word(memory, 0, bytes);
+    let whole = memory.len();
+    numbers::clear(&mut memory[end..whole]);
+    success(end)
 }
 
 // Room for the longest pattern.
 fn pattern_room() -> [u8; MOST_BYTES]
-    ensures { λ r. ⌜ r ≡ replicate 276 0 ⌝ }
+    ensures { λ r. ⌜ r ≡ replicate mostBytes 0 ⌝ }
 {
     [0; MOST_BYTES]
+}
+
+// The pattern of a draft for the caller, if the check of patterns accepts it.
+fn give_draft(d: Draft, pattern: &mut [u8]) -> Answer
+    requires { ⌜ Small d × DraftFits d ⌝ }
+    ensures { λ r. ⌜ Judged (draftBytes d) (length (now (pattern .entry))) r (now (pattern .exit)) ⌝ }
+{
+    let mut bytes = pattern_room();
+    let used = put_draft(d, &mut bytes);
+    let checked = patterns::check_pattern(&bytes[..used]);
+    if checked.code != 0 {
+        return refuse(pattern, checked.code, checked.place);
+    }
+    give(pattern, &bytes[..used])
 }
 
 // Reads a text into the bytes of a pattern.
 pub fn read_text(text: &[u8], pattern: &mut [u8]) -> Answer
     ensures { λ r. ⌜ ReadPromise (now (text .entry)) (length (now (pattern .entry))) r (now (pattern .exit)) ⌝ }
 {
-    numbers::clear(pattern);
     let read = read_lines(text);
     if read.bad {
-        return records::refusal(14, place(read.line));
+        return refuse(pattern, 14, place(read.line));
     }
     if is_too_large(read.draft) {
-        return records::refusal(2, 0);
+        return refuse(pattern, 2, 0);
     }
-    let mut bytes = pattern_room();
-    let used = put_draft(read.draft, &mut bytes);
-    let checked = patterns::check_pattern(&bytes[..used]);
-    if checked.code != 0 {
-        return records::refusal(checked.code, checked.place);
-    }
-    if pattern.len() < used {
-        return records::refusal(12, 0);
-    }
-    copy(&bytes[..used], pattern);
-    success(used)
+    give_draft(read.draft, pattern)
 }
 
 // Room for the longest text.
 fn text_room() -> [u8; wording::MOST_TEXT]
-    ensures { λ r. ⌜ r ≡ replicate 1017 0 ⌝ }
+    ensures { λ r. ⌜ r ≡ replicate mostText 0 ⌝ }
 {
     [0; wording::MOST_TEXT]
 }
@@ -217,16 +231,11 @@ fn text_room() -> [u8; wording::MOST_TEXT]
 pub fn write_text(pattern: &[u8], text: &mut [u8]) -> Answer
     ensures { λ r. ⌜ WritePromise (now (pattern .entry)) (length (now (text .entry))) r (now (text .exit)) ⌝ }
 {
-    numbers::clear(text);
     let checked = patterns::check_pattern(pattern);
     if checked.code != 0 {
-        return records::refusal(checked.code, checked.place);
+        return refuse(text, checked.code, checked.place);
     }
     let mut room = text_room();
     let used = wording::put_pattern(checked.pattern, &mut room);
-    if text.len() < used {
-        return records::refusal(12, 0);
-    }
-    copy(&room[..used], text);
-    success(used)
+    give(text, &room[..used])
 }
