@@ -1,4 +1,3 @@
 pub mod Words
 pub mod DraftBytes
-pub mod Copied
 pub mod Answered

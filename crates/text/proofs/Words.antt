@@ -18,7 +18,7 @@ pub put-written :
     → Put memory (written memory at bytes) at bytes (at + length bytes)
 put-written memory at bytes h =
     let front : length (take at memory ++ bytes) ≡ at + length bytes =
-        length-append (take at memory) bytes ∙ ap (λ (n : ℕ). n + length bytes) (length-take-le at memory (omega arith))
+    length-append (take at memory) bytes ∙ ap (λ (n : ℕ). n + length bytes) (length-take-le at memory (omega arith))
     in
     record {
       wrote = take-at (take at memory ++ bytes) (drop (at + length bytes) memory) (at + length bytes) front;
