@@ -5,5 +5,6 @@ pub mod Meaning
 pub mod Places
 pub mod Sizes
 pub mod Judged
+pub mod BadSets
 pub mod OneNames
 pub mod OneWritten

@@ -1,3 +1,3 @@
-pub mod Words
-pub mod DraftBytes
 pub mod Answered
+pub mod DraftBytes
+pub mod Words
