@@ -1,12 +1,12 @@
 -- What the reader answers, from what its steps tell. Assumes nothing.
-use mathlib.Core.Path.{_≡_, _∙_, sym, ap, ap₂}
+use mathlib.Core.Path.{_≡_, _∙_, refl, sym, ap, ap₂, subst}
 use mathlib.Core.Bool.{Bool, true, false, true≢false}
-use mathlib.Core.List.{List, _++_}
+use mathlib.Core.List.{List, [], _∷_, _++_}
 use mathlib.Core.Logic.{⊎-elim}
-use Prim.Native.Nat.{ℕ, _-_, _≤_, _<_, min}
+use Prim.Native.Nat.{ℕ, zero, suc, _+_, _-_, _≤_, _<_, min}
 use native.Mathlib.Nat.{zero-add}
 use native.Mathlib.Omega.{arith}
-use lib.ListN.{length, take, replicate}
+use lib.ListN.{length, take, drop, replicate}
 use Rattle.numbers.specs.Put.{Put}
 use Rattle.records.specs.declared.Answer.{Answer}
 use Rattle.records.specs.Blocks.{refused}
@@ -24,6 +24,7 @@ use Rattle.text.specs.declared.Reading.{Reading}
 use Rattle.text.specs.Texts.{TextRead, draftBytes}
 use Rattle.text.specs.Fitting.{DraftFits, Measured}
 use Rattle.text.proofs.DraftBytes.{text-fits, draft-fits, draft-bytes}
+use Rattle.text.proofs.Copied.{zeros-behind}
 
 -- ## What the lines and the draft tell
 
@@ -52,72 +53,72 @@ not-fits d large (Measured.too-large n b) e = n
 
 -- ## The bytes of the draft
 
-module _ {text : List ℕ} {d : Draft} {start bytes : List ℕ} {used : ℕ}
-    (g : Good text d) (f : DraftFits d) (p : Put start bytes 0 (draftBytes d) used) where
+module _ (text : List ℕ) (d : Draft) (g : Good text d) (f : DraftFits d) (start bytes : List ℕ) (used : ℕ)
+    (p : Put start bytes 0 (draftBytes d) used) where
   ours : Fits (g .making)
   ours = text-fits (g .making) d (g .draft) f
 
   packed : take used bytes ≡ patternBytes (g .making)
   packed = p .wrote ∙ draft-bytes (g .making) d (g .draft) ours
 
-  used-length : used ≡ length (patternBytes (g .making))
-  used-length = p .ends ∙ zero-add (length (draftBytes d)) ∙ ap length (draft-bytes (g .making) d (g .draft) ours)
+  size : used ≡ length (patternBytes (g .making))
+  size = p .ends ∙ zero-add (length (draftBytes d)) ∙ ap length (draft-bytes (g .making) d (g .draft) ours)
 
   -- how long the part is that is checked and copied
   pub part-length : used ≡ length (take used bytes)
-  part-length = used-length ∙ ap length (sym packed)
+  part-length = size ∙ ap length (sym packed)
 
-  -- what the check says of it
-  module _ {checked : Checked} (c : checked ≡ patternAnswer (take used bytes)) where
+-- ## The answers
+
+module _ (text : List ℕ) (lent : ℕ) (answer : Answer) (after : List ℕ) where
+  pub answer-outside :
+      (r : Reading) (place : ℕ) → TextRead text r → r .bad ≡ true → place ≡ min (r .line) mostPlace
+      → answer ≡ refused 14 place → after ≡ replicate lent 0
+      → ReadPromise text lent answer after
+  answer-outside r place t b p a z = ReadPromise.outside (r .line) (first-bad text r t b) (a ∙ ap (refused 14) p) z
+
+  pub answer-too-large :
+      (d : Draft) (large : Bool) → Good text d → Measured d large → large ≡ true
+      → answer ≡ refused 2 0 → after ≡ replicate lent 0
+      → ReadPromise text lent answer after
+  answer-too-large d large g measured l a z =
+      ReadPromise.too-large (g .making) (g .form)
+      (λ f. not-fits d large measured l (draft-fits (g .making) d (g .draft) f)) a z
+
+  module _ (d : Draft) (g : Good text d) (f : DraftFits d) (start bytes : List ℕ) (used : ℕ)
+      (p : Put start bytes 0 (draftBytes d) used) (checked : Checked) (c : checked ≡ patternAnswer (take used bytes)) where
     verdict : checked ≡ patternAnswer (patternBytes (g .making))
-    verdict = c ∙ ap patternAnswer packed
+    verdict = c ∙ ap patternAnswer (packed text d g f start bytes used p)
 
     accepted : checked .code ≡ 0 → patternAnswer (patternBytes (g .making)) .code ≡ 0
     accepted z = ap (λ (v : Checked). v .code) (sym verdict) ∙ z
 
--- ## The answers
-
-module _ {text : List ℕ} {lent : ℕ} {answer : Answer} {after : List ℕ} where
-  pub answer-outside :
-      (r : Reading) {place : ℕ} → TextRead text r → r .bad ≡ true → place ≡ min (r .line) mostPlace
-      → answer ≡ refused 14 place → after ≡ replicate lent 0
-      → ReadPromise text lent answer after
-  answer-outside r t b p a z = ReadPromise.outside (r .line) (first-bad text r t b) (a ∙ ap (refused 14) p) z
-
-  pub answer-too-large :
-      {d : Draft} {large : Bool} → Good text d → Measured d large → large ≡ true
-      → answer ≡ refused 2 0 → after ≡ replicate lent 0
-      → ReadPromise text lent answer after
-  answer-too-large {d} {large} g measured l a z =
-      ReadPromise.too-large (g .making) (g .form)
-      (λ f. not-fits d large measured l (draft-fits (g .making) d (g .draft) f)) a z
-
-  module _ {d : Draft} {start bytes : List ℕ} {used : ℕ} {checked : Checked}
-      (g : Good text d) (f : DraftFits d) (p : Put start bytes 0 (draftBytes d) used)
-      (c : checked ≡ patternAnswer (take used bytes)) where
     pub answer-bad-set :
         (checked .code ≡ 0 → ⊥) → answer ≡ refused (checked .code) (checked .place) → after ≡ replicate lent 0
         → ReadPromise text lent answer after
     answer-bad-set n a z =
-        let code = ap (λ (v : Checked). v .code) (verdict g f p c) in
+        let fit = ours text d g f start bytes used p in
+        let code = ap (λ (v : Checked). v .code) verdict in
         ⊎-elim
         (λ e. absurd (n (code ∙ e)))
-        (λ e. ReadPromise.bad-set (g .making) (g .form) (ours g f p) e
-        (a ∙ ap₂ refused (code ∙ e) (ap (λ (v : Checked). v .place) (verdict g f p c))) z)
-        (judged (g .making) (g .form .order) (ours g f p))
+        (λ e. ReadPromise.bad-set (g .making) (g .form) fit e
+        (a ∙ ap₂ refused (code ∙ e) (ap (λ (v : Checked). v .place) verdict)) z)
+        (judged (g .making) (g .form .order) fit)
 
     pub answer-no-room :
         checked .code ≡ 0 → lent < used → answer ≡ refused 12 0 → after ≡ replicate lent 0
         → ReadPromise text lent answer after
     answer-no-room k l a z =
-        let long = used-length g f p in
-        ReadPromise.no-room (g .making) (g .form) (ours g f p) (accepted g f p c k) (omega arith) a z
+        let long = size text d g f start bytes used p in
+        ReadPromise.no-room (g .making) (g .form) (ours text d g f start bytes used p) (accepted k) (omega arith) a z
 
     pub answer-read :
-        (size : ℕ) → checked .code ≡ 0 → used ≤ lent → size ≡ lent → answer ≡ written used
-        → after ≡ take used bytes ++ replicate (size - length (take used bytes)) 0
+        (cleared : List ℕ) → checked .code ≡ 0 → used ≤ lent → cleared ≡ replicate lent 0 → answer ≡ written used
+        → after ≡ take used bytes ++ drop (length (take used bytes)) cleared
         → ReadPromise text lent answer after
-    answer-read size k l z a e =
-        let long = used-length g f p in
-        ReadPromise.read (g .making) (g .form) (ours g f p) (accepted g f p c k) (omega arith) (a ∙ ap written long)
-        (e ∙ ap₂ (λ (x : List ℕ) (n : ℕ). x ++ replicate (n - length x) 0) (packed g f p) z)
+    answer-read cleared k l z a e =
+        let long = size text d g f start bytes used p in
+        ReadPromise.read (g .making) (g .form) (ours text d g f start bytes used p) (accepted k) (omega arith) (a ∙ ap written long)
+        (e
+        ∙ ap₂ (λ (x y : List ℕ). x ++ drop (length x) y) (packed text d g f start bytes used p) z
+        ∙ zeros-behind (patternBytes (g .making)) lent)

@@ -1,3 +1,4 @@
-pub mod Answered
-pub mod DraftBytes
 pub mod Words
+pub mod DraftBytes
+pub mod Copied
+pub mod Answered

@@ -1,8 +1,8 @@
 // The text form of patterns: texts read into pattern bytes, and written from them.
 ghost use mathlib.Core.Path.{_≡_};
 ghost use mathlib.Core.List.{_++_, flatMap};
-ghost use Prim.Native.Nat.{_+_, _-_, _≤_, min};
-ghost use lib.ListN.{length, take, replicate};
+ghost use Prim.Native.Nat.{_+_, _≤_, min};
+ghost use lib.ListN.{length, take, drop, replicate};
 ghost use Rattle.numbers.specs.Put.{Put};
 ghost use Rattle.numbers.specs.Bytes.{wordBytes};
 ghost use Rattle.patterns.specs.Patterns.{mostVariables, mostConditions};
@@ -157,14 +157,24 @@ fn success(bytes: usize) -> Answer
     }
 }
 
-// Bytes at the beginning of memory, and 0 behind them.
-fn put_front(memory: &mut [u8], bytes: &[u8])
+// Bytes copied to the beginning of lent memory.
+fn copy(bytes: &[u8], memory: &mut [u8])
     requires { ⌜ length (now bytes) ≤ length (now memory) ⌝ }
-    ensures { λ r. ⌜ now (memory .exit) ≡ now (bytes .entry)
-        ++ replicate (length (now (memory .entry)) - length (now (bytes .entry))) 0 ⌝ }
+    ensures { λ r. ⌜ now (memory .exit)
+        ≡ now (bytes .entry) ++ drop (length (now (bytes .entry))) (now (memory .entry)) ⌝ }
 {
-    let end = numbers::put_word(memory, 0, bytes);
-    numbers::clear(&mut memory[end..]);
+    let mut i = 0;
+    while i < bytes.len() {
+        memory[i] = bytes[i];
+        i += 1;
+    }
+}
+
+// Room for the longest pattern.
+fn pattern_room() -> [u8; MOST_BYTES]
+    ensures { λ r. ⌜ r ≡ replicate 276 0 ⌝ }
+{
+    [0; MOST_BYTES]
 }
 
 // Reads a text into the bytes of a pattern.
@@ -179,7 +189,7 @@ pub fn read_text(text: &[u8], pattern: &mut [u8]) -> Answer
     if is_too_large(read.draft) {
         return records::refusal(2, 0);
     }
-    let mut bytes = [0; MOST_BYTES];
+    let mut bytes = pattern_room();
     let used = put_draft(read.draft, &mut bytes);
     let checked = patterns::check_pattern(&bytes[..used]);
     if checked.code != 0 {
@@ -188,8 +198,15 @@ pub fn read_text(text: &[u8], pattern: &mut [u8]) -> Answer
     if pattern.len() < used {
         return records::refusal(12, 0);
     }
-    put_front(pattern, &bytes[..used]);
+    copy(&bytes[..used], pattern);
     success(used)
+}
+
+// Room for the longest text.
+fn text_room() -> [u8; wording::MOST_TEXT]
+    ensures { λ r. ⌜ r ≡ replicate 1017 0 ⌝ }
+{
+    [0; wording::MOST_TEXT]
 }
 
 // Writes the text of a pattern.
@@ -201,11 +218,11 @@ pub fn write_text(pattern: &[u8], text: &mut [u8]) -> Answer
     if checked.code != 0 {
         return records::refusal(checked.code, checked.place);
     }
-    let mut room = [0; wording::MOST_TEXT];
+    let mut room = text_room();
     let used = wording::put_pattern(checked.pattern, &mut room);
     if text.len() < used {
         return records::refusal(12, 0);
     }
-    put_front(text, &room[..used]);
+    copy(&room[..used], text);
     success(used)
 }
