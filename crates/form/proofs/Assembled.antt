@@ -1,8 +1,8 @@
 -- An accepted pattern is put together again of its counts, its variables and its conditions. Assumes nothing.
 use mathlib.Core.Path.{_≡_, _∙_, refl, sym, ap, ap₂}
 use mathlib.Core.Bool.{Bool, false, not, _||_}
-use mathlib.Core.List.{List, [], _∷_, _++_, map, flatMap}
-use Prim.Native.Nat.{ℕ, zero, suc, _+_, _*_, _/_, _%_, _^_, _≤_, _<_}
+use mathlib.Core.List.{List, _∷_, _++_, map, flatMap}
+use Prim.Native.Nat.{ℕ, zero, suc, _+_, _*_, _/_, _^_, _≤_, _<_}
 use native.Mathlib.Nat.{add-suc, div-one}
 use native.Mathlib.Omega.{arith}
 use borrow.Author.Tests.{eqb-true}
@@ -20,7 +20,7 @@ use Rattle.patterns.specs.Patterns.{formBroken, leastSet, greatestSet, members,
 use Rattle.patterns.specs.Patterns.{lastAttribute, lastOperator}
 use Rattle.patterns.specs.Checked.{patternAnswer, firstBadVariable, firstBadCondition}
 use Rattle.patterns.proofs.Answers.{header-in-order}
-use Rattle.patterns.proofs.InOrder.{Accepted, accepted}
+use Rattle.patterns.proofs.InOrder.{accepted}
 use Rattle.form.specs.Packed.{headerBits, conditionBits}
 use Rattle.form.proofs.WordBytes.{taken, number-bytes, number-bound}
 use Rattle.form.proofs.Fields.{joined, header-back, condition-back}
@@ -80,8 +80,8 @@ unfolding variableBroken
 variable-zero pattern v h =
     let set = setNumber pattern v in
     let two =
-        last-two (ltb set (leastSet pattern v)) (ltb (greatestSet pattern v) set) (ltb mostSets set)
-        (ltb mostInSet (members pattern set (suc v))) (not (eqb (variableZero pattern v) 0)) h
+    last-two (ltb set (leastSet pattern v)) (ltb (greatestSet pattern v) set) (ltb mostSets set)
+    (ltb mostInSet (members pattern set (suc v))) (not (eqb (variableZero pattern v) 0)) h
     in
     eqb-true (variableZero pattern v) 0 (not-not (eqb (variableZero pattern v) 0) (two .1))
 
@@ -90,13 +90,14 @@ unfolding conditionBroken
 condition-zero n word h =
     let k = conditionOf word in
     let two =
-        last-two (leb n (k .variable)) (ltb lastAttribute (k .attribute)) (ltb lastOperator (k .operator))
-        (not (eqb (conditionZero word) 0)) (formBroken n k) h
+    last-two (leb n (k .variable)) (ltb lastAttribute (k .attribute)) (ltb lastOperator (k .operator))
+    (not (eqb (conditionZero word) 0)) (formBroken n k) h
     in
     eqb-true (conditionZero word) 0 (not-not (eqb (conditionZero word) 0) (two .0))
 
 module _ (pattern : List ℕ) (small : (i : ℕ) → getD pattern i 0 < 256) (ok : patternAnswer pattern .code ≡ 0) where
-  header-part : take 8 pattern ≡ wordBytes (headerBits (variableCount pattern) (conditionCount pattern) (duration pattern))
+  header-part :
+      take 8 pattern ≡ wordBytes (headerBits (variableCount pattern) (conditionCount pattern) (duration pattern))
   unfolding header
   header-part =
       let a = accepted pattern ok in

@@ -1,6 +1,6 @@
 -- The fields of a condition's and of a header's 64 bits, and the bits of such fields. Assumes nothing.
 use mathlib.Core.Path.{_≡_, _∙_, sym, ap}
-use Prim.Native.Nat.{ℕ, zero, suc, _+_, _*_, _/_, _%_, _^_, _≤_, _<_}
+use Prim.Native.Nat.{ℕ, _+_, _*_, _/_, _%_, _^_, _<_}
 use native.Mathlib.Nat.{div-one, div-div-eq-div-mul, div-add-mod', mul-add-div-right, mul-add-mod-self-right}
 use native.Mathlib.Nat.{div-eq-of-lt, mod-eq-of-lt, add-zero, lt-of-le-of-lt}
 use native.Mathlib.Omega.{arith}
@@ -18,7 +18,7 @@ lowest : (m x y : ℕ) → y < m → (x * m + y) % m ≡ y
 lowest m x y h = mul-add-mod-self-right x m y ∙ mod-eq-of-lt h
 
 -- a part of a number, between what stands above it and what stands below it
-part :
+pub part :
     (word size weight high mid low : ℕ) → word ≡ (high * size + mid) * weight + low → mid < size → low < weight
     → word / weight % size ≡ mid
 part word size weight high mid low e m l =
@@ -45,97 +45,79 @@ pub record WithinBits (k : Condition) : Type 0 where
   pub attribute2 : k .attribute2 < 2 ^ 3
   pub constant : k .constant < 2 ^ 32
 
-module _ (a b o f v g c : ℕ) where
-  abbrev bits : ℕ
-  bits = a * 2 ^ 60 + b * 2 ^ 57 + o * 2 ^ 54 + f * 2 ^ 53 + v * 2 ^ 49 + g * 2 ^ 46 + c
-
-  module _ (la : a < 2 ^ 4) (lb : b < 2 ^ 3) (lo : o < 2 ^ 3) (lf : f < 2) (lv : v < 2 ^ 4) (lg : g < 2 ^ 3)
-      (lc : c < 2 ^ 32) where
-    bits-bound : bits < 2 ^ 64
-    bits-bound = omega arith
-
-    bits-a : field 4 60 bits ≡ a
-    bits-a =
-        part bits (2 ^ 4) (2 ^ 60) 0 a (b * 2 ^ 57 + o * 2 ^ 54 + f * 2 ^ 53 + v * 2 ^ 49 + g * 2 ^ 46 + c)
-        (omega arith) la (omega arith)
-
-    bits-b : field 3 57 bits ≡ b
-    bits-b =
-        part bits (2 ^ 3) (2 ^ 57) a b (o * 2 ^ 54 + f * 2 ^ 53 + v * 2 ^ 49 + g * 2 ^ 46 + c)
-        (omega arith) lb (omega arith)
-
-    bits-o : field 3 54 bits ≡ o
-    bits-o =
-        part bits (2 ^ 3) (2 ^ 54) (a * 2 ^ 3 + b) o (f * 2 ^ 53 + v * 2 ^ 49 + g * 2 ^ 46 + c)
-        (omega arith) lo (omega arith)
-
-    bits-f : field 1 53 bits ≡ f
-    bits-f =
-        part bits 2 (2 ^ 53) (a * 2 ^ 6 + b * 2 ^ 3 + o) f (v * 2 ^ 49 + g * 2 ^ 46 + c) (omega arith) lf (omega arith)
-
-    bits-v : field 4 49 bits ≡ v
-    bits-v =
-        part bits (2 ^ 4) (2 ^ 49) (a * 2 ^ 7 + b * 2 ^ 4 + o * 2 + f) v (g * 2 ^ 46 + c) (omega arith) lv (omega arith)
-
-    bits-g : field 3 46 bits ≡ g
-    bits-g =
-        part bits (2 ^ 3) (2 ^ 46) (a * 2 ^ 11 + b * 2 ^ 8 + o * 2 ^ 5 + f * 2 ^ 4 + v) g c (omega arith) lg (omega arith)
-
-    bits-zero : field 14 32 bits ≡ 0
-    bits-zero =
-        part bits (2 ^ 14) (2 ^ 32) (a * 2 ^ 14 + b * 2 ^ 11 + o * 2 ^ 8 + f * 2 ^ 7 + v * 2 ^ 3 + g) 0 c
-        (omega arith) (omega arith) lc
-
-    bits-c : field 32 0 bits ≡ c
-    bits-c =
-        part bits (2 ^ 32) 1 (a * 2 ^ 28 + b * 2 ^ 25 + o * 2 ^ 22 + f * 2 ^ 21 + v * 2 ^ 17 + g * 2 ^ 14) c 0
-        (omega arith) lc (omega arith)
-
 module _ (k : Condition) (w : WithinBits k) where
   pub condition-bound : conditionBits k < 2 ^ 64
   unfolding conditionBits
-  condition-bound =
-      bits-bound (k .variable) (k .attribute) (k .operator) (k .form) (k .variable2) (k .attribute2) (k .constant)
-      (w .variable) (w .attribute) (w .operator) (w .form) (w .variable2) (w .attribute2) (w .constant)
+  condition-bound = omega arith
+
+  variable-back : field 4 60 (conditionBits k) ≡ k .variable
+  unfolding conditionBits
+  variable-back =
+      part (conditionBits k) (2 ^ 4) (2 ^ 60) 0 (k .variable)
+      (k .attribute * 2 ^ 57 + k .operator * 2 ^ 54 + k .form * 2 ^ 53 + k .variable2 * 2 ^ 49 + k .attribute2 * 2 ^ 46 + k .constant) (omega arith) (w .variable) (omega arith)
+
+  attribute-back : field 3 57 (conditionBits k) ≡ k .attribute
+  unfolding conditionBits
+  attribute-back =
+      part (conditionBits k) (2 ^ 3) (2 ^ 57) (k .variable) (k .attribute)
+      (k .operator * 2 ^ 54 + k .form * 2 ^ 53 + k .variable2 * 2 ^ 49 + k .attribute2 * 2 ^ 46 + k .constant) (omega arith) (w .attribute) (omega arith)
+
+  operator-back : field 3 54 (conditionBits k) ≡ k .operator
+  unfolding conditionBits
+  operator-back =
+      part (conditionBits k) (2 ^ 3) (2 ^ 54) (k .variable * 2 ^ 3 + k .attribute) (k .operator)
+      (k .form * 2 ^ 53 + k .variable2 * 2 ^ 49 + k .attribute2 * 2 ^ 46 + k .constant) (omega arith) (w .operator) (omega arith)
+
+  form-back : field 1 53 (conditionBits k) ≡ k .form
+  unfolding conditionBits
+  form-back =
+      part (conditionBits k) 2 (2 ^ 53) (k .variable * 2 ^ 6 + k .attribute * 2 ^ 3 + k .operator) (k .form)
+      (k .variable2 * 2 ^ 49 + k .attribute2 * 2 ^ 46 + k .constant) (omega arith) (w .form) (omega arith)
+
+  variable2-back : field 4 49 (conditionBits k) ≡ k .variable2
+  unfolding conditionBits
+  variable2-back =
+      part (conditionBits k) (2 ^ 4) (2 ^ 49) (k .variable * 2 ^ 7 + k .attribute * 2 ^ 4 + k .operator * 2 + k .form) (k .variable2)
+      (k .attribute2 * 2 ^ 46 + k .constant) (omega arith) (w .variable2) (omega arith)
+
+  attribute2-back : field 3 46 (conditionBits k) ≡ k .attribute2
+  unfolding conditionBits
+  attribute2-back =
+      part (conditionBits k) (2 ^ 3) (2 ^ 46) (k .variable * 2 ^ 11 + k .attribute * 2 ^ 8 + k .operator * 2 ^ 5 + k .form * 2 ^ 4 + k .variable2) (k .attribute2)
+      (k .constant) (omega arith) (w .attribute2) (omega arith)
+
+  constant-back : field 32 0 (conditionBits k) ≡ k .constant
+  unfolding conditionBits
+  constant-back =
+      part (conditionBits k) (2 ^ 32) 1
+      (k .variable * 2 ^ 28 + k .attribute * 2 ^ 25 + k .operator * 2 ^ 22 + k .form * 2 ^ 21 + k .variable2 * 2 ^ 17 + k .attribute2 * 2 ^ 14)
+      (k .constant) 0 (omega arith) (w .constant) (omega arith)
 
   pub condition-zero : conditionZero (conditionBits k) ≡ 0
   unfolding conditionBits conditionZero
   condition-zero =
-      bits-zero (k .variable) (k .attribute) (k .operator) (k .form) (k .variable2) (k .attribute2) (k .constant)
-      (w .variable) (w .attribute) (w .operator) (w .form) (w .variable2) (w .attribute2) (w .constant)
+      part (conditionBits k) (2 ^ 14) (2 ^ 32)
+      (k .variable * 2 ^ 14 + k .attribute * 2 ^ 11 + k .operator * 2 ^ 8 + k .form * 2 ^ 7 + k .variable2 * 2 ^ 3 + k .attribute2)
+      0 (k .constant) (omega arith) (omega arith) (w .constant)
 
   pub condition-fields : conditionOf (conditionBits k) ≡ k
-  unfolding conditionBits conditionOf
-  condition-fields =
-      let a = bits-a (k .variable) (k .attribute) (k .operator) (k .form) (k .variable2) (k .attribute2) (k .constant)
-      (w .variable) (w .attribute) (w .operator) (w .form) (w .variable2) (w .attribute2) (w .constant) in
-      let b = bits-b (k .variable) (k .attribute) (k .operator) (k .form) (k .variable2) (k .attribute2) (k .constant)
-      (w .variable) (w .attribute) (w .operator) (w .form) (w .variable2) (w .attribute2) (w .constant) in
-      let o = bits-o (k .variable) (k .attribute) (k .operator) (k .form) (k .variable2) (k .attribute2) (k .constant)
-      (w .variable) (w .attribute) (w .operator) (w .form) (w .variable2) (w .attribute2) (w .constant) in
-      let f = bits-f (k .variable) (k .attribute) (k .operator) (k .form) (k .variable2) (k .attribute2) (k .constant)
-      (w .variable) (w .attribute) (w .operator) (w .form) (w .variable2) (w .attribute2) (w .constant) in
-      let v = bits-v (k .variable) (k .attribute) (k .operator) (k .form) (k .variable2) (k .attribute2) (k .constant)
-      (w .variable) (w .attribute) (w .operator) (w .form) (w .variable2) (w .attribute2) (w .constant) in
-      let g = bits-g (k .variable) (k .attribute) (k .operator) (k .form) (k .variable2) (k .attribute2) (k .constant)
-      (w .variable) (w .attribute) (w .operator) (w .form) (w .variable2) (w .attribute2) (w .constant) in
-      let c = bits-c (k .variable) (k .attribute) (k .operator) (k .form) (k .variable2) (k .attribute2) (k .constant)
-      (w .variable) (w .attribute) (w .operator) (w .form) (w .variable2) (w .attribute2) (w .constant) in
-      λ i.
+  unfolding conditionOf
+  condition-fields = λ i.
       record {
-        variable = a i;
-        attribute = b i;
-        operator = o i;
-        form = f i;
-        variable2 = v i;
-        attribute2 = g i;
-        constant = c i;
+        variable = variable-back i;
+        attribute = attribute-back i;
+        operator = operator-back i;
+        form = form-back i;
+        variable2 = variable2-back i;
+        attribute2 = attribute2-back i;
+        constant = constant-back i;
       }
 
 -- the parts in a row, and each with its weight
 weighed :
     (a b o f v g z c : ℕ) → z ≡ 0
-    → ((((((a * 2 ^ 3 + b) * 2 ^ 3 + o) * 2 + f) * 2 ^ 4 + v) * 2 ^ 3 + g) * 2 ^ 14 + z) * 2 ^ 32 + c ≡ bits a b o f v g c
+    → ((((((a * 2 ^ 3 + b) * 2 ^ 3 + o) * 2 + f) * 2 ^ 4 + v) * 2 ^ 3 + g) * 2 ^ 14 + z) * 2 ^ 32 + c
+    ≡ a * 2 ^ 60 + b * 2 ^ 57 + o * 2 ^ 54 + f * 2 ^ 53 + v * 2 ^ 49 + g * 2 ^ 46 + c
 weighed a b o f v g z c e = omega arith
 
 pub condition-back : (word : ℕ) → word < 2 ^ 64 → conditionZero word ≡ 0 → conditionBits (conditionOf word) ≡ word

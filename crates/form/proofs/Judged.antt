@@ -1,17 +1,17 @@
--- How the check judges the pattern of a text that fits: it is accepted, or a variable's set is refused. Assumes nothing.
+-- How the check judges the pattern of a text that fits: it accepts it, or refuses a variable's set. Assumes nothing.
 use mathlib.Core.Path.{_≡_, _∙_, refl, sym, ap, ap₂, subst}
-use mathlib.Core.Bool.{Bool, true, false, not, _||_}
-use mathlib.Core.List.{List, [], _∷_, _++_, map, flatMap, append-assoc}
+use mathlib.Core.Bool.{Bool, false, not, _||_}
+use mathlib.Core.List.{List, [], _∷_, _++_, flatMap, append-assoc}
 use mathlib.Core.List.{List·Memᴰ, List·Memᴰ·head, List·Memᴰ·tail}
 use mathlib.Core.Logic.{_⊎_, inl, inr}
 use Prim.Native.Nat.{ℕ, zero, suc, _+_, _*_, _^_, _≤_, _<_}
 use native.Mathlib.Omega.{arith}
-use borrow.Author.Tests.{lt-ltb, le-ltb, eq-eqb, lt-leb}
+use borrow.Author.Tests.{le-ltb, eq-eqb, lt-leb}
 use lib.Dec.{eqb, ltb, leb}
-use lib.ListN.{length, length-append, length-map}
-use Rattle.numbers.specs.Numbers.{number, field, first}
+use lib.ListN.{length, length-append}
+use Rattle.numbers.specs.Numbers.{number, field}
 use Rattle.numbers.specs.Bytes.{wordBytes}
-use Rattle.numbers.proofs.Cases.{by-test, by-order}
+use Rattle.numbers.proofs.Cases.{by-order}
 use Rattle.numbers.proofs.First.{first-none}
 use Rattle.patterns.specs.declared.Checked.{Checked}
 use Rattle.patterns.specs.declared.Condition.{Condition}
@@ -20,9 +20,9 @@ use Rattle.patterns.specs.Patterns.{mostVariables, mostConditions, lastAttribut
 use Rattle.patterns.specs.Patterns.{conditionOf, conditionZero, conditionWord, conditionBroken, formBroken}
 use Rattle.patterns.specs.Checked.{patternAnswer, firstBadVariable, firstBadCondition}
 use Rattle.patterns.proofs.Answers.{wholeLength, answer-variable, answer-pattern}
-use Rattle.form.specs.Form.{Member, Side, Operand, constant, other, When, Making, names, namesOf}
+use Rattle.form.specs.Form.{Member, Side, Operand, constant, other, When, Making, names}
 use Rattle.form.specs.Form.{OperandInOrder, WhenInOrder, InOrder}
-use Rattle.form.specs.Packed.{variableOf, bitsOf, conditionIn, conditionBits, whenBits, memberBytes, headerBits}
+use Rattle.form.specs.Packed.{conditionIn, conditionBits, whenBits, memberBytes, headerBits}
 use Rattle.form.specs.Packed.{patternBytes, Fits}
 use Rattle.form.proofs.WordBytes.{word-first, word-behind, word-length}
 use Rattle.form.proofs.Fields.{WithinBits, condition-bound, condition-zero, condition-fields}
@@ -217,8 +217,8 @@ module _ (m : Making) (o : InOrder m) (fits : Fits m) where
       let before = wordBytes (headerBits variables conditions (m .duration)) ++ memberBytes 1 (m .sets) in
       let bits : When → ℕ = whenBits (names (m .sets)) in
       let size : length before ≡ 8 + variables =
-          length-append (wordBytes (headerBits variables conditions (m .duration))) (memberBytes 1 (m .sets))
-          ∙ ap₂ _+_ (word-length (headerBits variables conditions (m .duration))) (member-length 1 (m .sets))
+      length-append (wordBytes (headerBits variables conditions (m .duration))) (memberBytes 1 (m .sets))
+      ∙ ap₂ _+_ (word-length (headerBits variables conditions (m .duration))) (member-length 1 (m .sets))
       in
       subst (λ (w : ℕ). conditionBroken variables w ≡ false)
       (ap₂ (λ (b : List ℕ) (n : ℕ). number b (n + 8 * i) 8)
@@ -233,9 +233,9 @@ module _ (m : Making) (o : InOrder m) (fits : Fits m) where
   unfolding firstBadCondition
   conditions-kept =
       let e =
-          first-none (λ i. conditionBroken (variableCount bytes) (conditionWord bytes i)) (conditionCount bytes)
-          (λ i h. ap (λ (n : ℕ). conditionBroken n (conditionWord bytes i)) variables-of
-          ∙ condition-kept i (subst (λ (c : ℕ). i < c) conditions-of h))
+      first-none (λ i. conditionBroken (variableCount bytes) (conditionWord bytes i)) (conditionCount bytes)
+      (λ i h. ap (λ (n : ℕ). conditionBroken n (conditionWord bytes i)) variables-of
+      ∙ condition-kept i (subst (λ (c : ℕ). i < c) conditions-of h))
       in
       omega (arith, e)
 

@@ -14,6 +14,7 @@ pub mod Meaning
 pub mod Places
 pub mod Sizes
 pub mod Judged
+pub mod BadSets
 pub mod OneNames
 pub mod OneWritten
 pub mod RoundTrip

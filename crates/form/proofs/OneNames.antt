@@ -1,24 +1,24 @@
 -- A pattern has one making: its bytes fix its sets, its conditions and its duration. Assumes nothing.
-use mathlib.Core.Path.{_≡_, _∙_, refl, sym, ap, ap₂, subst}
+use mathlib.Core.Path.{_≡_, _∙_, refl, sym, ap, subst}
 use mathlib.Core.Bool.{Bool, true, false}
 use mathlib.Core.List.{List, [], _∷_, _++_, map, flatMap}
 use mathlib.Core.List.{List·Memᴰ, List·Memᴰ·head, List·Memᴰ·tail, List·Memᴰ·not-nil, List·Memᴰ·append-cases}
 use mathlib.Core.List.{Memᴰ·of-map, head-eq-of-cons-eq, tail-eq-of-cons-eq}
 use mathlib.Core.Logic.{⊎-elim}
-use Prim.Native.Nat.{ℕ, zero, suc, _+_, _*_, _^_, _≤_, _<_}
+use Prim.Native.Nat.{ℕ, suc, _*_, _^_, _≤_, _<_}
 use native.Mathlib.Omega.{arith}
-use lib.IntN.{ℤ}
 use lib.ListN.{length, take, drop, length-append}
 use lib.Seq.{take-at, drop-at}
 use Rattle.numbers.specs.Numbers.{number, oneIf}
 use Rattle.numbers.specs.Bytes.{wordBytes}
+use Rattle.numbers.proofs.Count.{oneIf-bound}
 use Rattle.patterns.specs.declared.Condition.{Condition}
 use Rattle.patterns.specs.Patterns.{duration, mostVariables, conditionOf}
 use Rattle.patterns.specs.Comparison.{constantValue}
 use Rattle.form.specs.Form.{Member, Side, Operand, constant, other, When, Making, names, namesOf}
-use Rattle.form.specs.Form.{OperandInOrder, WhenInOrder, InOrder, inRange}
-use Rattle.form.specs.Packed.{memberByte, memberBytes, variableOf, bitsOf, conditionIn, conditionBits, whenBits}
-use Rattle.form.specs.Packed.{headerBits, patternBytes, Fits}
+use Rattle.form.specs.Form.{OperandInOrder, WhenInOrder}
+use Rattle.form.specs.Packed.{memberByte, memberBytes, variableOf, conditionIn, whenBits}
+use Rattle.form.specs.Packed.{headerBits, patternBytes}
 use Rattle.form.specs.Promises.{Names}
 use Rattle.form.proofs.WordBytes.{word-first, word-length}
 use Rattle.form.proofs.Fields.{condition-fields, condition-bound}
@@ -30,15 +30,12 @@ use Rattle.form.proofs.Judged.{when-sound, duration-of}
 -- two lists of two parts each, the first parts as long as one another
 parts-one :
     (a b c d : List ℕ) → a ++ c ≡ b ++ d → length a ≡ length b → (a ≡ b) × (c ≡ d)
-parts-one a b c d e l =
-    (sym (take-at a c (length b) l) ∙ ap (take (length b)) e ∙ take-at b d (length b) refl,
-    sym (drop-at a c (length b) l) ∙ ap (drop (length b)) e ∙ drop-at b d (length b) refl)
+parts-one a b c d e l = (
+  sym (take-at a c (length b) l) ∙ ap (take (length b)) e ∙ take-at b d (length b) refl,
+  sym (drop-at a c (length b) l) ∙ ap (drop (length b)) e ∙ drop-at b d (length b) refl,
+)
 
 -- ## Sets
-
-flag-bound : (t : Bool) → oneIf t ≤ 1
-flag-bound true = omega arith
-flag-bound false = omega arith
 
 flag-one : (s t : Bool) → oneIf s ≡ oneIf t → s ≡ t
 flag-one true true e = refl
@@ -48,7 +45,7 @@ flag-one false false e = refl
 
 byte-bound : (k : ℕ) (m : Member) → (16 * k ≤ memberByte k m) × (memberByte k m < 16 * suc k)
 unfolding memberByte
-byte-bound k m = let b = flag-bound (m .group) in (omega arith, omega arith)
+byte-bound k m = let b = oneIf-bound (m .group) in (omega arith, omega arith)
 
 member-one : (k : ℕ) (x y : Member) → memberByte k x ≡ memberByte k y → x .name ≡ y .name → x ≡ y
 unfolding memberByte
@@ -74,7 +71,9 @@ record Parted (s t : List Member) (a b c d : List ℕ) : Type 0 where
   bytes : a ≡ b
   rest : c ≡ d
 
-not-first : {P : Type 0} (k : ℕ) (sets : List (List Member)) (x : Member) (l : List ℕ) → memberBytes (suc k) sets ≡ memberByte k x ∷ l → P
+not-first :
+    {P : Type 0} (k : ℕ) (sets : List (List Member)) (x : Member) (l : List ℕ)
+    → memberBytes (suc k) sets ≡ memberByte k x ∷ l → P
 not-first k sets x l e =
     let m : List·Memᴰ (memberByte k x) (memberBytes (suc k) sets) = subst (List·Memᴰ (memberByte k x)) (sym e) (List·Memᴰ·head refl) in
     let above = bytes-above (suc k) sets (memberByte k x) m in
@@ -98,7 +97,9 @@ parted k (x ∷ s) (y ∷ t) a b c d e n =
 abbrev NoneEmpty : List (List Member) → Type 0
 NoneEmpty sets = (s : List Member) → List·Memᴰ s sets → ¬ (s ≡ [])
 
-not-empty : {P : Type 0} (k : ℕ) (s : List Member) (sets : List (List Member)) → NoneEmpty (s ∷ sets) → [] ≡ memberBytes k (s ∷ sets) → P
+not-empty :
+    {P : Type 0} (k : ℕ) (s : List Member) (sets : List (List Member)) → NoneEmpty (s ∷ sets)
+    → [] ≡ memberBytes k (s ∷ sets) → P
 unfolding memberBytes
 not-empty k [] sets none e = absurd (none [] (List·Memᴰ·head refl) refl)
 not-empty k (x ∷ s) sets none e = let l = ap length e in absurd (omega arith)
@@ -167,21 +168,21 @@ module _ (known : List ℕ) where
   condition-one : (v w : When) → WhenInOrder known v → WhenInOrder known w → conditionFor v ≡ conditionFor w → v ≡ w
   condition-one v w h k e =
       let a : v .left .attribute ≡ w .left .attribute =
-          sym (attribute-in (v .left) (v .operator) (v .right)) ∙ ap (λ (c : Condition). c .attribute) e
-          ∙ attribute-in (w .left) (w .operator) (w .right)
+      sym (attribute-in (v .left) (v .operator) (v .right)) ∙ ap (λ (c : Condition). c .attribute) e
+      ∙ attribute-in (w .left) (w .operator) (w .right)
       in
       let n : variableOf known (v .left .name) ≡ variableOf known (w .left .name) =
-          sym (variable-in (v .left) (v .operator) (v .right)) ∙ ap (λ (c : Condition). c .variable) e
-          ∙ variable-in (w .left) (w .operator) (w .right)
+      sym (variable-in (v .left) (v .operator) (v .right)) ∙ ap (λ (c : Condition). c .variable) e
+      ∙ variable-in (w .left) (w .operator) (w .right)
       in
       let o : v .operator ≡ w .operator =
-          sym (operator-in (v .left) (v .operator) (v .right)) ∙ ap (λ (c : Condition). c .operator) e
-          ∙ operator-in (w .left) (w .operator) (w .right)
+      sym (operator-in (v .left) (v .operator) (v .right)) ∙ ap (λ (c : Condition). c .operator) e
+      ∙ operator-in (w .left) (w .operator) (w .right)
       in
       let l = side-one (v .left) (w .left) (h .left .named) (k .left .named) n a in
       let r =
-          operand-one (v .left .attribute) (v .left) (w .left) (v .operator) (w .operator) (v .right) (w .right) (h .right)
-          (subst (λ (b : ℕ). OperandInOrder known b (w .right)) (sym a) (k .right)) e
+      operand-one (v .left .attribute) (v .left) (w .left) (v .operator) (w .operator) (v .right) (w .right) (h .right)
+      (subst (λ (b : ℕ). OperandInOrder known b (w .right)) (sym a) (k .right)) e
       in
       λ i. record { left = l i; operator = o i; right = r i }
 
@@ -231,20 +232,20 @@ names-one pattern m k p q =
     let alike : names (m .sets) ≡ names (k .sets) = p .alphabet ∙ sym (q .alphabet) in
     let bytes : patternBytes m ≡ patternBytes k = p .same ∙ sym (q .same) in
     let behind =
-        parts-one (wordBytes (headerFor m)) (wordBytes (headerFor k)) _ _ bytes
-        (word-length (headerFor m) ∙ sym (word-length (headerFor k))) .1
+    parts-one (wordBytes (headerFor m)) (wordBytes (headerFor k)) _ _ bytes
+    (word-length (headerFor m) ∙ sym (word-length (headerFor k))) .1
     in
     let two =
-        parts-one _ _ _ _ behind
-        (member-length 1 (m .sets) ∙ ap length alike ∙ sym (member-length 1 (k .sets)))
+    parts-one _ _ _ _ behind
+    (member-length 1 (m .sets) ∙ ap length alike ∙ sym (member-length 1 (k .sets)))
     in
     let sets : m .sets ≡ k .sets = sets-one 1 (m .sets) (k .sets) (p .order .none-empty) (q .order .none-empty) (two .0) alike in
     let whens : m .whens ≡ k .whens =
-        whens-one (names (m .sets)) (p .fits .few) (m .whens) (k .whens) (p .order .conditions)
-        (subst (λ (n : List ℕ). (w : When) → List·Memᴰ w (k .whens) → WhenInOrder n w) (sym alike) (q .order .conditions))
-        (two .1 ∙ ap (λ (n : List ℕ). flatMap (λ (w : When). wordBytes (whenBits n w)) (k .whens)) (sym alike))
+    whens-one (names (m .sets)) (p .fits .few) (m .whens) (k .whens) (p .order .conditions)
+    (subst (λ (n : List ℕ). (w : When) → List·Memᴰ w (k .whens) → WhenInOrder n w) (sym alike) (q .order .conditions))
+    (two .1 ∙ ap (λ (n : List ℕ). flatMap (λ (w : When). wordBytes (whenBits n w)) (k .whens)) (sym alike))
     in
     let within : m .duration ≡ k .duration =
-        sym (duration-of m (p .order) (p .fits)) ∙ ap duration bytes ∙ duration-of k (q .order) (q .fits)
+    sym (duration-of m (p .order) (p .fits)) ∙ ap duration bytes ∙ duration-of k (q .order) (q .fits)
     in
     λ i. record { sets = sets i; whens = whens i; duration = within i }

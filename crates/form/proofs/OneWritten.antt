@@ -1,21 +1,21 @@
--- The writer's promise fixes its answer and every byte of the slice, and a writer that writes nothing breaks it. Assumes
+-- The writer's promise fixes its answer and every byte of the slice; a writer that writes nothing breaks it. Assumes
 -- nothing.
-use mathlib.Core.Path.{_≡_, _∙_, refl, sym, ap, subst}
-use mathlib.Core.Bool.{Bool, true, false}
-use mathlib.Core.List.{List, [], _∷_, _++_, map, flatMap, List·Memᴰ, List·Memᴰ·not-nil, List·Memᴰ·eq-of-singleton}
-use Prim.Native.Nat.{ℕ, zero, suc, _+_, _-_, _^_, _≤_, _<_}
+use mathlib.Core.Path.{_≡_, _∙_, refl, sym, ap}
+use mathlib.Core.Bool.{false}
+use mathlib.Core.List.{List, [], _∷_, _++_, flatMap, List·Memᴰ·not-nil, List·Memᴰ·eq-of-singleton}
+use Prim.Native.Nat.{ℕ, _-_, _≤_, _<_}
 use native.Mathlib.Omega.{arith}
 use lib.ListN.{length, getD, replicate, getD-replicate}
 use Rattle.numbers.specs.Numbers.{number, upto, first, firstFrom, count}
 use Rattle.numbers.specs.Bytes.{wordBytes}
 use Rattle.numbers.specs.Decimal.{decimal, digits}
 use Rattle.records.specs.declared.Answer.{Answer}
-use Rattle.records.specs.Blocks.{refused}
-use Rattle.patterns.specs.Patterns.{header, headerBroken, variableBroken, setNumber, leastSet, greatestSet, variableZero}
+use Rattle.patterns.specs.Patterns.{header, headerBroken, variableBroken, setNumber, leastSet, greatestSet}
+use Rattle.patterns.specs.Patterns.{variableZero}
 use Rattle.patterns.specs.Checked.{patternAnswer, firstBadVariable, firstBadCondition}
-use Rattle.form.specs.Form.{Member, When, Making, names, namesOf, textOf, setLine, withinLine, line, spaced}
+use Rattle.form.specs.Form.{Making, names, textOf, setLine, withinLine, line, spaced}
 use Rattle.form.specs.Form.{memberWord, Once, InOrder}
-use Rattle.form.specs.Packed.{patternBytes, memberBytes, memberByte, headerBits, Fits}
+use Rattle.form.specs.Packed.{patternBytes, memberBytes, memberByte, headerBits}
 use Rattle.form.specs.Promises.{written, Names, WritePromise}
 use Rattle.form.proofs.OneNames.{names-one}
 
@@ -37,9 +37,10 @@ module _ (pattern : List ℕ) (lent : ℕ) where
   write-promise-one a b x y (WritePromise.wrote z m v h p q) (WritePromise.bad-pattern n p2 q2) = absurd (n z)
   write-promise-one a b x y (WritePromise.wrote z m v h p q) (WritePromise.no-room z2 k w l p2 q2) = roomy k m w v l h
   write-promise-one a b x y (WritePromise.wrote z m v h p q) (WritePromise.wrote z2 k w l p2 q2) =
-      let same = names-one pattern m k v w in
-      (p ∙ ap (λ (m : Making). written (length (textOf m))) same ∙ sym p2,
-      q ∙ ap (λ (m : Making). textOf m ++ replicate (lent - length (textOf m)) 0) same ∙ sym q2)
+      let same = names-one pattern m k v w in (
+        p ∙ ap (λ (m : Making). written (length (textOf m))) same ∙ sym p2,
+        q ∙ ap (λ (m : Making). textOf m ++ replicate (lent - length (textOf m)) 0) same ∙ sym q2,
+      )
 
 -- ## A writer that writes nothing
 
@@ -57,7 +58,7 @@ plain-bytes = refl
 
 plain-accepted : patternAnswer plain .code ≡ 0
 unfolding patternAnswer header headerBroken variableBroken number firstBadVariable firstBadCondition first firstFrom setNumber
-  leastSet greatestSet variableZero count
+    leastSet greatestSet variableZero count
 plain-accepted = refl
 
 plain-text : length (textOf plainMaking) ≡ 17
@@ -102,8 +103,8 @@ writes-something lent answer after room (WritePromise.wrote z m v h p q) =
     let e = ap (λ (m : Making). length (textOf m)) same ∙ plain-text in
     let used = ap (λ (a : Answer). a .used) p in
     let byte : getD after 0 0 ≡ 115 =
-        ap (λ (l : List ℕ). getD l 0 0) q
-        ∙ ap (λ (m : Making). getD (textOf m ++ replicate (lent - length (textOf m)) 0) 0 0) same
-        ∙ plain-first _
+    ap (λ (l : List ℕ). getD l 0 0) q
+    ∙ ap (λ (m : Making). getD (textOf m ++ replicate (lent - length (textOf m)) 0) 0 0) same
+    ∙ plain-first _
     in
     (omega arith, λ none. let z = ap (λ (l : List ℕ). getD l 0 0) none ∙ getD-replicate lent 0 0 0 (omega arith) in omega arith)

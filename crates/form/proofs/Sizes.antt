@@ -1,7 +1,7 @@
 -- How many bytes a pattern has. Assumes nothing.
-use mathlib.Core.Path.{_≡_, _∙_, refl, sym, ap, ap₂}
-use mathlib.Core.List.{List, [], _∷_, _++_, map, flatMap}
-use Prim.Native.Nat.{ℕ, zero, suc, _+_, _*_, _≤_}
+use mathlib.Core.Path.{_≡_, _∙_, refl, sym, ap₂}
+use mathlib.Core.List.{List, [], _∷_, map, flatMap}
+use Prim.Native.Nat.{ℕ, suc, _+_, _*_, _≤_}
 use native.Mathlib.Omega.{arith}
 use lib.ListN.{length, length-append, length-map}
 use Rattle.numbers.specs.Bytes.{wordBytes}
@@ -17,7 +17,8 @@ member-length k (s ∷ sets) =
     ∙ ap₂ _+_ (length-map s (memberByte k) ∙ sym (length-map s (λ (m : Member). m .name))) (member-length (suc k) sets)
     ∙ sym (length-append (namesOf s) (flatMap namesOf sets))
 
-pub words-length : {A : Type 0} (f : A → ℕ) (l : List A) → length (flatMap (λ (x : A). wordBytes (f x)) l) ≡ 8 * length l
+pub words-length :
+    {A : Type 0} (f : A → ℕ) (l : List A) → length (flatMap (λ (x : A). wordBytes (f x)) l) ≡ 8 * length l
 unfolding flatMap
 words-length f [] = refl
 words-length {A} f (x ∷ l) =

@@ -1,9 +1,9 @@
 -- The bytes of a draft's pattern: put piece by piece, and those of the text that the draft tells of. Assumes nothing.
-use mathlib.Core.Path.{_≡_, _∙_, refl, sym, ap, ap₂, subst}
-use mathlib.Core.List.{List, [], _∷_, _++_, map, flatMap, append-assoc}
-use Prim.Native.Nat.{ℕ, zero, suc, _+_, _-_, _*_, _≤_, _<_, min}
+use mathlib.Core.Path.{_≡_, _∙_, sym, ap, ap₂, subst}
+use mathlib.Core.List.{List, _++_, map, flatMap}
+use Prim.Native.Nat.{ℕ, _+_, _*_, _≤_, min}
 use native.Mathlib.Omega.{arith}
-use lib.ListN.{length, take, length-append}
+use lib.ListN.{length, take}
 use lib.Seq.{length-take-le}
 use Rattle.numbers.specs.Numbers.{written}
 use Rattle.numbers.specs.Bytes.{wordBytes}
@@ -53,9 +53,10 @@ module _ (d : Draft) (s : Small d) (f : DraftFits d) where
           → Put start after 0 (draftBytes d) r × (r ≤ 276)
       unfolding draftBytes
       draft-put after r h p =
-          let whole = put-then header-put (put-then q p) in
-          (subst (λ (w : ℕ). Put start after 0 (wordBytes w ++ (take (d .n) (d .variables) ++ flatMap wordBytes (take (d .c) (d .conditions)))) r) h whole,
-          omega (arith, q .ends, p .ends, variables-length, conditions-length, f .few, f .few-conditions))
+          let whole = put-then header-put (put-then q p) in (
+            subst (λ (w : ℕ). Put start after 0 (wordBytes w ++ (take (d .n) (d .variables) ++ flatMap wordBytes (take (d .c) (d .conditions)))) r) h whole,
+            omega (arith, q .ends, p .ends, variables-length, conditions-length, f .few, f .few-conditions),
+          )
 
 -- ## The text that a draft tells of
 
@@ -94,10 +95,10 @@ module _ (m : Making) (d : Draft) (o : DraftOf (itemsOf m) d) where
       let c : d .c ≡ length (m .whens) = omega (arith, h .c, f .few-conditions) in
       let t : d .duration ≡ m .duration = omega (arith, lasts, f .short) in
       let v : take (d .n) (d .variables) ≡ memberBytes 1 (m .sets) =
-          ap (λ (k : ℕ). take k (d .variables)) n ∙ h .variables (f .few)
+      ap (λ (k : ℕ). take k (d .variables)) n ∙ h .variables (f .few)
       in
       let w : take (d .c) (d .conditions) ≡ map (whenBits (names (m .sets))) (m .whens) =
-          ap (λ (k : ℕ). take k (d .conditions)) c ∙ h .conditions (f .few) (f .few-conditions)
+      ap (λ (k : ℕ). take k (d .conditions)) c ∙ h .conditions (f .few) (f .few-conditions)
       in
       ap₂ _++_ (λ i. wordBytes (headerBits (n i) (c i) (t i)))
       (ap₂ _++_ v (ap (flatMap wordBytes) w ∙ flat-map wordBytes (whenBits (names (m .sets))) (m .whens)))

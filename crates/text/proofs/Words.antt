@@ -1,7 +1,7 @@
 -- Words put behind one another. Assumes nothing.
 use mathlib.Core.Path.{_≡_, _∙_, refl, sym, ap, subst}
 use mathlib.Core.List.{List, [], _∷_, _++_, flatMap, append-nil}
-use Prim.Native.Nat.{ℕ, zero, suc, _+_, _-_, _*_, _≤_, _<_}
+use Prim.Native.Nat.{ℕ, _+_, _-_, _≤_, _<_}
 use native.Mathlib.Numerals.{add-one}
 use native.Mathlib.Omega.{arith}
 use lib.ListN.{length, take, drop, getD, length-append, length-drop}
@@ -18,7 +18,7 @@ pub put-written :
     → Put memory (written memory at bytes) at bytes (at + length bytes)
 put-written memory at bytes h =
     let front : length (take at memory ++ bytes) ≡ at + length bytes =
-        length-append (take at memory) bytes ∙ ap (λ (n : ℕ). n + length bytes) (length-take-le at memory (omega arith))
+    length-append (take at memory) bytes ∙ ap (λ (n : ℕ). n + length bytes) (length-take-le at memory (omega arith))
     in
     record {
       wrote = take-at (take at memory ++ bytes) (drop (at + length bytes) memory) (at + length bytes) front;
