@@ -6,7 +6,8 @@ use Prim.Native.Nat.{ℕ, suc, _+_, _-_, _*_, _^_, _≤_, _<_, min}
 use lib.ListN.{length, getD, set, drop}
 use Rattle.numbers.specs.Numbers.{oneIf}
 use Rattle.patterns.specs.Patterns.{lastAttribute, lastOperator}
-use Rattle.form.specs.Form.{Member, Operand, constant, other, When, space, plus, firstLetter, letters}
+use Rattle.form.specs.Form.{Member, Operand, When, space, plus, firstLetter, letters}
+use Rattle.form.specs.Form.Operand.{constant, other}
 use Rattle.form.specs.Form.{memberWord, sideWord, operatorWord, operandWord, IsLetter, inRange}
 use Rattle.form.specs.Packed.{bitsOf}
 use Rattle.form.specs.Items.{inSets, inWhens, finished}

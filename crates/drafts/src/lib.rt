@@ -10,7 +10,8 @@ ghost use Rattle.drafts.specs.Drafts.{Small, DraftOf, LineRead};
 ghost use Rattle.drafts.specs.Steps.{BeginsWith, WordEnd, PieceOf, MemberTaken, NamedTest, Places, SideRead};
 ghost use Rattle.drafts.specs.Steps.{OperandOf, ComparisonOf, ConditionOf};
 ghost use Rattle.drafts.specs.Steps.{refused, withVariable, withSet, withCondition, withDuration};
-use patterns::{MOST_CONDITIONS, MOST_VARIABLES};
+use patterns::MOST_CONDITIONS;
+use patterns::MOST_VARIABLES;
 use words::LETTERS;
 
 // Counts stop one above what a pattern may have.
