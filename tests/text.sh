@@ -20,7 +20,8 @@ converts() {
   text 0 "" "$2" && cmp "$out/text.out" "$3"
 }
 
-# refuses NUMBER PLACE LINE TEXT: whether the text is refused so, as printf writes it, and the line shown; nothing is made
+# refuses NUMBER PLACE LINE TEXT: whether the text, as printf writes it, is refused so and the line shown; nothing is
+# made
 refuses() {
   local said
   case $1 in

@@ -105,7 +105,8 @@ not-empty k [] sets none e = absurd (none [] (List·Memᴰ·head refl) refl)
 not-empty k (x ∷ s) sets none e = let l = ap length e in absurd (omega arith)
 
 sets-one :
-    (k : ℕ) (a b : List (List Member)) → NoneEmpty a → NoneEmpty b → memberBytes k a ≡ memberBytes k b → names a ≡ names b
+    (k : ℕ) (a b : List (List Member)) → NoneEmpty a → NoneEmpty b
+    → memberBytes k a ≡ memberBytes k b → names a ≡ names b
     → a ≡ b
 unfolding memberBytes names flatMap
 sets-one k [] [] p q e n = refl

@@ -21,7 +21,8 @@ use Rattle.form.proofs.OneNames.{names-one}
 
 module _ (pattern : List ℕ) (lent : ℕ) where
   roomy :
-      {P : Type 0} (m k : Making) → Names pattern m → Names pattern k → lent < length (textOf m) → length (textOf k) ≤ lent
+      {P : Type 0} (m k : Making) → Names pattern m → Names pattern k
+      → lent < length (textOf m) → length (textOf k) ≤ lent
       → P
   roomy m k p q h l =
       let e = ap (λ (m : Making). length (textOf m)) (names-one pattern m k p q) in absurd (omega arith)

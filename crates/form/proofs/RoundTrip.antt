@@ -22,7 +22,9 @@ padded : List ℕ → ℕ → List ℕ
 padded bytes lent = bytes ++ replicate (lent - length bytes) 0
 
 -- of the slice as many bytes as the answer says
-front : (bytes slice : List ℕ) (lent used : ℕ) → slice ≡ padded bytes lent → used ≡ length bytes → take used slice ≡ bytes
+front :
+    (bytes slice : List ℕ) (lent used : ℕ) → slice ≡ padded bytes lent → used ≡ length bytes
+    → take used slice ≡ bytes
 unfolding padded
 front bytes slice lent used e u = ap₂ take u e ∙ take-at bytes _ (length bytes) refl
 

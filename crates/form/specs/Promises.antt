@@ -20,7 +20,8 @@ written bytes = record { code = 0; place = 0; used = bytes; readings = 0; peak =
 abbrev pub mostPlace : ℕ
 mostPlace = 2 ^ 32 - 1
 
--- Rules 7.9, 8.12, 8.17, 8.18: for the bytes of a text and a slice of `lent` bytes, the answer and the slice after the call
+-- Rules 7.9, 8.12, 8.17, 8.18: for the bytes of a text and a slice of `lent` bytes, the answer and the slice after the
+-- call
 pub data ReadPromise (text : List ℕ) (lent : ℕ) (answer : Answer) (after : List ℕ) : Type 0 where
   -- 14: text outside the form
   outside :
@@ -64,7 +65,8 @@ pub record Names (pattern : List ℕ) (m : Making) : Type 0 where
 abbrev pub mostText : ℕ
 mostText = 1017
 
--- Rules 7.9, 8.12, 8.18: for the bytes of a pattern and a slice of `lent` bytes, the answer and the slice after the call
+-- Rules 7.9, 8.12, 8.18: for the bytes of a pattern and a slice of `lent` bytes, the answer and the slice after the
+-- call
 pub data WritePromise (pattern : List ℕ) (lent : ℕ) (answer : Answer) (after : List ℕ) : Type 0 where
   bad-pattern :
       ¬ (patternAnswer pattern .code ≡ 0)

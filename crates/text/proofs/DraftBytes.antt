@@ -31,7 +31,8 @@ module _ (d : Draft) (s : Small d) (f : DraftFits d) where
       words-length (λ (w : ℕ). w) (take (d .c) (d .conditions))
       ∙ ap (λ (n : ℕ). 8 * n) (length-take-le (d .c) (d .conditions) (omega (arith, s .conditions, f .few-conditions)))
 
-  module _ (start stored : List ℕ) (word : ℕ) (room : 276 ≤ length start) (e : stored ≡ written start 0 (wordBytes word)) where
+  module _ (start stored : List ℕ) (word : ℕ) (room : 276 ≤ length start)
+      (e : stored ≡ written start 0 (wordBytes word)) where
     header-put : Put start stored 0 (wordBytes word) 8
     header-put =
         let size = word-length word in

@@ -66,7 +66,8 @@ module _ (text : List ℕ) (lent : ℕ) (answer : Answer) (after : List ℕ) whe
 
   -- the bytes of the text's pattern, judged
   of-making :
-      (m : Making) → InForm text m → Fits m → Judged (patternBytes m) lent answer after → ReadPromise text lent answer after
+      (m : Making) → InForm text m → Fits m → Judged (patternBytes m) lent answer after
+      → ReadPromise text lent answer after
   of-making m f fit (Judged.not-accepted n r) =
       ⊎-elim
       (λ z. absurd (n z))
@@ -77,7 +78,8 @@ module _ (text : List ℕ) (lent : ℕ) (answer : Answer) (after : List ℕ) whe
   of-making m f fit (Judged.accepted k (Given.whole l e z)) = ReadPromise.read m f fit k l e z
 
   pub answer-judged :
-      (d : Draft) → Good text d → DraftFits d → Judged (draftBytes d) lent answer after → ReadPromise text lent answer after
+      (d : Draft) → Good text d → DraftFits d → Judged (draftBytes d) lent answer after
+      → ReadPromise text lent answer after
   answer-judged d g f j =
       let fit = text-fits (g .making) d (g .draft) f in
       of-making (g .making) (g .form) fit

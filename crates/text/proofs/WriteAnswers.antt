@@ -50,7 +50,8 @@ module _ (pattern : List ℕ) (lent : ℕ) (answer : Answer) (after : List ℕ) 
       (r .cleared)
 
   pub write-given :
-      checked .code ≡ 0 → ((i : ℕ) → getD pattern i 0 < 256) → Given (textOf (makingOf (checked .pattern))) lent answer after
+      checked .code ≡ 0 → ((i : ℕ) → getD pattern i 0 < 256)
+      → Given (textOf (makingOf (checked .pattern))) lent answer after
       → WritePromise pattern lent answer after
   write-given z small (Given.short l r) =
       WritePromise.no-room (accepts pattern checked e z) (makingOf (checked .pattern))

@@ -103,7 +103,8 @@ fn put_variables(d: Draft, bytes: &mut [u8]) -> usize
 fn put_conditions(d: Draft, bytes: &mut [u8], at: usize) -> usize
     requires { ⌜ (length (d .conditions) ≡ mostConditions) × (d .c ≤ mostConditions)
         × (at + conditionBytes * mostConditions ≤ length (now bytes)) ⌝ }
-    ensures { λ r. ⌜ Put (now (bytes .entry)) (now (bytes .exit)) at (flatMap wordBytes (take (d .c) (d .conditions))) r ⌝ }
+    ensures { λ r. ⌜ Put (now (bytes .entry)) (now (bytes .exit)) at
+        (flatMap wordBytes (take (d .c) (d .conditions))) r ⌝ }
 {
     let c = d.c as usize;
     let mut end = at;
