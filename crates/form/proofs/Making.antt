@@ -117,9 +117,6 @@ pub sets-snoc-within : (l : List Item) (n : ℕ) → setsIn (l ++ (within-item n
 unfolding setsIn
 sets-snoc-within l n = sets-append l (within-item n ∷ []) ∙ append-nil (setsIn l)
 
-pub sets-snoc : (l : List Item) (i : Item) → setsIn (l ++ (i ∷ [])) ≡ setsIn l ++ setsIn (i ∷ [])
-sets-snoc l i = sets-append l (i ∷ [])
-
 pub whens-snoc-set : (l : List Item) (s : List Member) → whensIn (l ++ (set-item s ∷ [])) ≡ whensIn l
 unfolding whensIn
 whens-snoc-set l s = whens-append l (set-item s ∷ []) ∙ append-nil (whensIn l)
@@ -131,9 +128,6 @@ whens-snoc-when l w = whens-append l (when-item w ∷ [])
 pub whens-snoc-within : (l : List Item) (n : ℕ) → whensIn (l ++ (within-item n ∷ [])) ≡ whensIn l
 unfolding whensIn
 whens-snoc-within l n = whens-append l (within-item n ∷ []) ∙ append-nil (whensIn l)
-
-pub whens-snoc : (l : List Item) (i : Item) → whensIn (l ++ (i ∷ [])) ≡ whensIn l ++ whensIn (i ∷ [])
-whens-snoc l i = whens-append l (i ∷ [])
 
 pub duration-snoc-set : (l : List Item) (s : List Member) → durationIn (l ++ (set-item s ∷ [])) ≡ durationIn l
 unfolding durationIn
@@ -156,10 +150,6 @@ end-snoc s l i = end-append s l (i ∷ [])
 pub valid-snoc : (s : State) (l : List Item) (i : Item) → Valid s l → Next (end s l) i → Valid s (l ++ (i ∷ []))
 unfolding Valid
 valid-snoc s l i v n = valid-append s l (i ∷ []) v (n, tt)
-
-pub valid-unsnoc : (s : State) (l : List Item) (i : Item) → Valid s (l ++ (i ∷ [])) → Valid s l × Next (end s l) i
-unfolding Valid
-valid-unsnoc s l i v = (valid-front s l (i ∷ []) v, valid-back s l (i ∷ []) v .0)
 
 -- nothing stands behind the within line
 pub nothing-behind : (s : State) (l : List Item) → s .phase ≡ finished → Valid s l → l ≡ []

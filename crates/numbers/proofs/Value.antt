@@ -148,9 +148,6 @@ decimal-positive n =
     (λ s. rw (decimal-one n s) (omega arith))
     (λ l. rw (decimal-more n l, length-append) (omega arith))
 
-pub decimal-some : (n : ℕ) → ¬ (decimal n ≡ [])
-decimal-some n e = let p = decimal-positive n in let q : length (decimal n) ≡ 0 = ap length e in omega arith
-
 pub decimal-head : (n : ℕ) → (48 ≤ getD (decimal n) 0 0) × (getD (decimal n) 0 0 ≤ 57)
 decimal-head n = decimal-digit n (getD (decimal n) 0 0) (member (decimal n) 0 (decimal-positive n))
 

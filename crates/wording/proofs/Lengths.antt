@@ -1,15 +1,14 @@
 -- How long the lines of a text are, and the whole text of a checked pattern. Assumes nothing.
 use mathlib.Core.Path.{_≡_, ap}
 use mathlib.Core.List.{[], _∷_, flatMap}
-use Prim.Native.Nat.{ℕ, zero, suc, _-_, _*_, _/_, _%_, _^_, _≤_, _<_}
+use Prim.Native.Nat.{ℕ, zero, suc, _-_, _*_, _^_, _≤_, _<_}
 use native.Mathlib.Omega.{arith}
 use borrow.Author.Tests.{eqb-true, eqb-false}
 use lib.Dec.{eqb}
 use lib.ListN.{length, length-append}
 use Rattle.numbers.specs.Numbers.{upto}
-use Rattle.numbers.specs.Decimal.{glyph, decimal}
-use Rattle.numbers.proofs.Cases.{by-test, by-order}
-use Rattle.numbers.proofs.Decimal.{decimal-one, decimal-more, places-left}
+use Rattle.numbers.proofs.Cases.{by-test}
+use Rattle.numbers.proofs.Value.{decimal-length}
 use Rattle.patterns.specs.declared.Pattern.{Pattern}
 use Rattle.patterns.specs.declared.Condition.{Condition}
 use Rattle.patterns.specs.Checked.{InOrder, conditionAt}
@@ -25,17 +24,6 @@ use Rattle.wording.proofs.Whens.{whensOf, whens-snoc, flat-snoc}
 use Rattle.wording.proofs.Conditions.{by-sign}
 
 -- ## Words
-
-pub decimal-length : (places n : ℕ) → 1 ≤ places → n < 10 ^ places → length (decimal n) ≤ places
-decimal-length zero n h l = absurd (omega arith)
-decimal-length (suc places) n h l =
-    let e : suc places - 1 ≡ places = omega arith in
-    let shorter = decimal-length places (n / 10) in
-    by-order n 10
-    (λ s. omega (arith, ap length (decimal-one n s)))
-    (λ s. let left = places-left (suc places) n h s l in
-    let rest = shorter (rw e at left .0) (rw e at left .1) in
-    omega (arith, ap length (decimal-more n s), length-append (decimal (n / 10)) (glyph (n % 10) ∷ [])))
 
 attribute-length : (a : ℕ) → length (attributeWord a) ≤ 6
 unfolding attributeWord attributeWords
