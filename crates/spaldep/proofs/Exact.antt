@@ -1,5 +1,6 @@
--- The C answer of a pass has exactly the fields of the call's answer, since all of them fit, and two answers that
--- differ pack to numbers that differ. Assumes nothing.
+-- The C answer of a pass, of the listing and of a text has exactly the fields of the call's answer, since all of them
+-- fit, but for the place of a bad line far down in a text; and two answers that differ pack to numbers that differ.
+-- Assumes nothing.
 use mathlib.Core.Path.{_≡_, _∙_, refl, sym, ap, subst}
 use mathlib.Core.Logic.{_⊎_, inl, inr}
 use mathlib.Core.Bool.{Bool, true, false, not, _&&_, false≢true}
@@ -29,6 +30,9 @@ use Rattle.patterns.proofs.InOrder.{accepted-pattern, accepted-in-order}
 use Rattle.automaton.specs.Counts.{setSize, groupSize, stepsGiven}
 use Rattle.automaton.specs.Listing.{ListingPromise, stepsListed}
 use Rattle.automaton.proofs.Counts.{all-steps}
+use Rattle.form.specs.Promises.{ReadPromise, WritePromise, written}
+use Rattle.form.proofs.Sizes.{most-bytes}
+use Rattle.wording.proofs.Written.{longest}
 use Rattle.rule.specs.Rule.{Block, Line, TimesNeverFall, pack, packBindings}
 use Rattle.rule.specs.Promises.{Outcome, LiveCount, Forward, StartByStart, success}
 use Rattle.rule.specs.Calls.{inputAnswer, patternIn, blockIn, mostLive, mostResultBytes, roomIn, StartByStartCall}
@@ -247,3 +251,47 @@ listing-fits pattern lent a after (ListingPromise.listed z l is m e r) =
     let bound = sum-le (λ i. stepsGiven (patternOf pattern) (suc i)) (24 * 2 ^ 11) mostSets (λ i. steps-le (patternOf pattern) checked (suc i)) in
     let small : length l < 2 ^ 24 = omega (arith, all-steps (patternOf pattern) checked l is, bound) in
     subst Fits (sym e) (record { code = omega arith; place = used-fits (stepsListed (length l)) refl small; readings = omega arith; peak = omega arith })
+
+-- ## Texts
+
+written-fits : (bytes : ℕ) → bytes < 2 ^ 24 → Fits (written bytes)
+written-fits bytes l =
+    record { code = omega arith; place = used-fits (written bytes) refl l; readings = omega arith; peak = omega arith }
+
+checked-fits :
+    (pattern : List ℕ) → ¬ (patternAnswer pattern .code ≡ 0)
+    → Fits (refused (patternAnswer pattern .code) (patternAnswer pattern .place))
+checked-fits pattern n =
+    refused-fits (patternAnswer pattern .code) (patternAnswer pattern .place) (omega arith)
+    (omega (arith, pattern-refusals pattern))
+    (pattern-place pattern)
+
+pub write-fits :
+    (pattern : List ℕ) (lent : ℕ) (a : Answer) (after : List ℕ) → WritePromise pattern lent a after → Fits a
+write-fits pattern lent a after (WritePromise.bad-pattern n e r) = subst Fits (sym e) (checked-fits pattern n)
+write-fits pattern lent a after (WritePromise.no-room z m q l e r) =
+    subst Fits (sym e) (refused-fits 12 0 (omega arith) (omega arith) (omega arith))
+write-fits pattern lent a after (WritePromise.wrote z m q l e r) =
+    subst Fits (sym e) (written-fits _ (omega (arith, longest pattern m z q)))
+
+-- the place of a 14 fits where the line is one of the first 2^24
+pub read-fits :
+    (text : List ℕ) (lent : ℕ) (a : Answer) (after : List ℕ) → ReadPromise text lent a after
+    → (a .code ≡ 14 → a .place < 2 ^ 24)
+    → Fits a
+read-fits text lent a after (ReadPromise.outside place f e r) l =
+    let bound = l (ap (λ (b : Answer). b .code) e) in
+    record {
+      code = omega (arith, ap (λ (b : Answer). b .code) e);
+      place = place-fits a (λ z. omega (arith, ap (λ (b : Answer). b .code) e)) bound;
+      readings = omega (arith, ap (λ (b : Answer). b .readings) e);
+      peak = omega (arith, ap (λ (b : Answer). b .peak) e);
+    }
+read-fits text lent a after (ReadPromise.too-large m f n e r) l =
+    subst Fits (sym e) (refused-fits 2 0 (omega arith) (omega arith) (omega arith))
+read-fits text lent a after (ReadPromise.bad-set m f i s e r) l =
+    subst Fits (sym e) (refused-fits 3 _ (omega arith) (omega arith) (pattern-place _))
+read-fits text lent a after (ReadPromise.no-room m f i s h e r) l =
+    subst Fits (sym e) (refused-fits 12 0 (omega arith) (omega arith) (omega arith))
+read-fits text lent a after (ReadPromise.read m f i s h e r) l =
+    subst Fits (sym e) (written-fits _ (omega (arith, most-bytes m i)))
