@@ -10,7 +10,7 @@ use Rattle.patterns.specs.Checked.{patternAnswer}
 use Rattle.form.specs.Form.{Making, InForm}
 use Rattle.form.specs.Lines.{FirstBad}
 use Rattle.form.specs.Packed.{patternBytes, Fits}
-use Rattle.form.specs.Promises.{written, mostPlace, ReadPromise}
+use Rattle.form.specs.Promises.{bytesWritten, mostPlace, ReadPromise}
 use Rattle.form.proofs.OneMeaning.{one-making}
 use Rattle.form.proofs.FirstBad.{first-bad-one}
 
@@ -32,7 +32,7 @@ pub record Formed (m : Making) (lent : ℕ) (answer : Answer) (after : List ℕ)
       → Refused lent 12 0 answer after
   pub good :
       Fits m → patternAnswer (patternBytes m) .code ≡ 0 → length (patternBytes m) ≤ lent
-      → (answer ≡ written (length (patternBytes m)))
+      → (answer ≡ bytesWritten (length (patternBytes m)))
       × (after ≡ patternBytes m ++ replicate (lent - length (patternBytes m)) 0)
 
 module _ (text : List ℕ) (lent : ℕ) (answer : Answer) (after : List ℕ) where

@@ -16,7 +16,7 @@ use Rattle.patterns.specs.Checked.{patternAnswer, firstBadVariable, firstBadCon
 use Rattle.form.specs.Form.{Making, names, textOf, setLine, withinLine, line, spaced}
 use Rattle.form.specs.Form.{memberWord, Once, InOrder}
 use Rattle.form.specs.Packed.{patternBytes, memberBytes, memberByte, headerBits}
-use Rattle.form.specs.Promises.{written, Names, WritePromise}
+use Rattle.form.specs.Promises.{bytesWritten, Names, WritePromise}
 use Rattle.form.proofs.OneNames.{names-one}
 
 module _ (pattern : List ℕ) (lent : ℕ) where
@@ -39,7 +39,7 @@ module _ (pattern : List ℕ) (lent : ℕ) where
   write-promise-one a b x y (WritePromise.wrote z m v h p q) (WritePromise.no-room z2 k w l p2 q2) = roomy k m w v l h
   write-promise-one a b x y (WritePromise.wrote z m v h p q) (WritePromise.wrote z2 k w l p2 q2) =
       let same = names-one pattern m k v w in (
-        p ∙ ap (λ (m : Making). written (length (textOf m))) same ∙ sym p2,
+        p ∙ ap (λ (m : Making). bytesWritten (length (textOf m))) same ∙ sym p2,
         q ∙ ap (λ (m : Making). textOf m ++ replicate (lent - length (textOf m)) 0) same ∙ sym q2,
       )
 

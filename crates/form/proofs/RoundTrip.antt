@@ -12,7 +12,7 @@ use Rattle.patterns.specs.Checked.{patternAnswer}
 use Rattle.patterns.specs.Patterns.{variableCount}
 use Rattle.form.specs.Form.{Making, InForm, names, textOf, firstLetter}
 use Rattle.form.specs.Packed.{patternBytes}
-use Rattle.form.specs.Promises.{written, Names, ReadPromise, WritePromise}
+use Rattle.form.specs.Promises.{bytesWritten, Names, ReadPromise, WritePromise}
 use Rattle.form.proofs.Judged.{variables-of}
 use Rattle.form.proofs.OneRead.{form-one, read-promise-one}
 use Rattle.form.proofs.OneWritten.{write-promise-one}
@@ -32,7 +32,7 @@ module _ (pattern : List ℕ) (lent room : ℕ) (a b : Answer) (x y : List ℕ) 
   pub reads-back :
       WritePromise pattern lent a x → a .code ≡ 0
       → ReadPromise (take (a .used) x) room b y → length pattern ≤ room
-      → (b ≡ written (length pattern)) × (y ≡ pattern ++ replicate (room - length pattern) 0)
+      → (b ≡ bytesWritten (length pattern)) × (y ≡ pattern ++ replicate (room - length pattern) 0)
   unfolding padded
   reads-back (WritePromise.bad-pattern n e z) h r l = absurd (n (sym (ap (λ (c : Answer). c .code) e) ∙ h))
   reads-back (WritePromise.no-room k m q s e z) h r l = absurd (omega (arith, ap (λ (c : Answer). c .code) e))
@@ -51,7 +51,7 @@ module _ (text : List ℕ) (lent room : ℕ) (a b : Answer) (x y : List ℕ) (m 
       names (m .sets) ≡ upto firstLetter (length (names (m .sets)))
       → ReadPromise text lent a x → a .code ≡ 0
       → WritePromise (take (a .used) x) room b y → length text ≤ room
-      → (b ≡ written (length text)) × (y ≡ text ++ replicate (room - length text) 0)
+      → (b ≡ bytesWritten (length text)) × (y ≡ text ++ replicate (room - length text) 0)
   unfolding padded
   writes-back n (ReadPromise.outside place g e z) h w l = absurd (g .outside m f)
   writes-back n (ReadPromise.too-large k g t e z) h w l = absurd (omega (arith, ap (λ (c : Answer). c .code) e))

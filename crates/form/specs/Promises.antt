@@ -13,8 +13,8 @@ use Rattle.form.specs.Lines.{FirstBad}
 use Rattle.form.specs.Packed.{patternBytes, Fits}
 
 -- Rule 7.9: the answer of a success tells the bytes written
-abbrev pub written : ℕ → Answer
-written bytes = record { code = 0; place = 0; used = bytes; readings = 0; peak = 0 }
+abbrev pub bytesWritten : ℕ → Answer
+bytesWritten bytes = record { code = 0; place = 0; used = bytes; readings = 0; peak = 0 }
 
 -- Rule 8.17: a place stops at the largest one
 abbrev pub mostPlace : ℕ
@@ -49,7 +49,7 @@ pub data ReadPromise (text : List ℕ) (lent : ℕ) (answer : Answer) (after : L
       → ReadPromise text lent answer after
   read :
       (m : Making) → InForm text m → Fits m → patternAnswer (patternBytes m) .code ≡ 0 → length (patternBytes m) ≤ lent
-      → answer ≡ written (length (patternBytes m))
+      → answer ≡ bytesWritten (length (patternBytes m))
       → after ≡ patternBytes m ++ replicate (lent - length (patternBytes m)) 0
       → ReadPromise text lent answer after
 
@@ -81,6 +81,6 @@ pub data WritePromise (pattern : List ℕ) (lent : ℕ) (answer : Answer) (after
       → WritePromise pattern lent answer after
   wrote :
       patternAnswer pattern .code ≡ 0 → (m : Making) → Names pattern m → length (textOf m) ≤ lent
-      → answer ≡ written (length (textOf m))
+      → answer ≡ bytesWritten (length (textOf m))
       → after ≡ textOf m ++ replicate (lent - length (textOf m)) 0
       → WritePromise pattern lent answer after

@@ -30,7 +30,7 @@ use Rattle.patterns.proofs.InOrder.{accepted-pattern, accepted-in-order}
 use Rattle.automaton.specs.Counts.{setSize, groupSize, stepsGiven}
 use Rattle.automaton.specs.Listing.{ListingPromise, stepsListed}
 use Rattle.automaton.proofs.Counts.{all-steps}
-use Rattle.form.specs.Promises.{ReadPromise, WritePromise, written}
+use Rattle.form.specs.Promises.{ReadPromise, WritePromise, bytesWritten}
 use Rattle.form.proofs.Sizes.{most-bytes}
 use Rattle.wording.proofs.Written.{longest}
 use Rattle.rule.specs.Rule.{Block, Line, TimesNeverFall, pack, packBindings}
@@ -254,9 +254,9 @@ listing-fits pattern lent a after (ListingPromise.listed z l is m e r) =
 
 -- ## Texts
 
-written-fits : (bytes : ℕ) → bytes < 2 ^ 24 → Fits (written bytes)
+written-fits : (bytes : ℕ) → bytes < 2 ^ 24 → Fits (bytesWritten bytes)
 written-fits bytes l =
-    record { code = omega arith; place = used-fits (written bytes) refl l; readings = omega arith; peak = omega arith }
+    record { code = omega arith; place = used-fits (bytesWritten bytes) refl l; readings = omega arith; peak = omega arith }
 
 checked-fits :
     (pattern : List ℕ) → ¬ (patternAnswer pattern .code ≡ 0)

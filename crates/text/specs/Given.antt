@@ -6,7 +6,7 @@ use lib.ListN.{length, replicate}
 use Rattle.records.specs.declared.Answer.{Answer}
 use Rattle.records.specs.Blocks.{refused}
 use Rattle.patterns.specs.Checked.{patternAnswer}
-use Rattle.form.specs.Promises.{written}
+use Rattle.form.specs.Promises.{bytesWritten}
 
 pub record Refused (lent code place : ℕ) (answer : Answer) (after : List ℕ) : Type 0 where
   pub told : answer ≡ refused code place
@@ -15,7 +15,7 @@ pub record Refused (lent code place : ℕ) (answer : Answer) (after : List ℕ) 
 pub data Given (bytes : List ℕ) (lent : ℕ) (answer : Answer) (after : List ℕ) : Type 0 where
   short : lent < length bytes → Refused lent 12 0 answer after → Given bytes lent answer after
   whole :
-      length bytes ≤ lent → answer ≡ written (length bytes)
+      length bytes ≤ lent → answer ≡ bytesWritten (length bytes)
       → after ≡ bytes ++ replicate (lent - length bytes) 0
       → Given bytes lent answer after
 

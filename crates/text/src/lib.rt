@@ -7,7 +7,7 @@ ghost use Rattle.numbers.specs.Put.{Put};
 ghost use Rattle.numbers.specs.Bytes.{wordBytes};
 ghost use Rattle.patterns.specs.Patterns.{headerBytes, mostVariables, conditionBytes, mostConditions};
 ghost use Rattle.form.specs.Packed.{headerBits};
-ghost use Rattle.form.specs.Promises.{ReadPromise, WritePromise, written, mostPlace, mostText};
+ghost use Rattle.form.specs.Promises.{ReadPromise, WritePromise, bytesWritten, mostPlace, mostText};
 ghost use Rattle.drafts.specs.Drafts.{Small};
 ghost use Rattle.text.specs.LineEnds.{LineEnd};
 ghost use Rattle.text.specs.Texts.{TextRead, draftBytes, mostBytes};
@@ -162,7 +162,7 @@ fn refuse(memory: &mut [u8], code: u8, place: u32) -> Answer
 }
 
 fn success(bytes: usize) -> Answer
-    ensures { λ r. ⌜ r ≡ written bytes ⌝ }
+    ensures { λ r. ⌜ r ≡ bytesWritten bytes ⌝ }
 {
     Answer {
         code: 0,

@@ -2,7 +2,7 @@
 use mathlib.Core.Path.{_∙_, ap}
 use native.Mathlib.Omega.{arith}
 use borrow.Author.Needs.{needs}
-use Rattle.form.specs.Promises.{written}
+use Rattle.form.specs.Promises.{bytesWritten}
 use Rattle.text.specs.Given.{Given}
 use Rattle.text.proofs.Fronts.{front}
 use Rattle.text.proofs.give.Statement.{statement}
@@ -45,7 +45,7 @@ returns-2 c =
     let k = c .before .before .before .clear in
     let fits = c .before .before .before .before .before .before .before .before .before .if1 .left in
     Given.whole fits
-    (c .success .ensures ∙ ap written (omega (arith, p .ensures .ends)))
+    (c .success .ensures ∙ ap bytesWritten (omega (arith, p .ensures .ends)))
     (front (s .args .memory .now) (p .last .0) (k .last .0) (s .args .bytes .now) (p .result) (p .ensures) fits (k .ensures))
 
 pub give-spec : {M : Type 1} → statement M
