@@ -6,7 +6,7 @@ use native.Mathlib.Omega.{arith}
 use lib.ListN.{length, length-append, length-map}
 use Rattle.numbers.specs.Bytes.{wordBytes}
 use Rattle.form.specs.Form.{Member, When, Making, names, namesOf}
-use Rattle.form.specs.Packed.{memberByte, memberBytes, headerBits, whenBits, patternBytes, Fits}
+use Rattle.form.specs.Packed.{memberByte, memberBytes, headerBits, whenBits, patternBytes, Fits, mostBytes}
 use Rattle.form.proofs.WordBytes.{word-length}
 
 pub member-length : (k : ℕ) (sets : List (List Member)) → length (memberBytes k sets) ≡ length (names sets)
@@ -40,5 +40,5 @@ pattern-length m =
     let c = words-length bits (m .whens) in
     simp length-append (omega (arith, a, b, c))
 
-pub most-bytes : (m : Making) → Fits m → length (patternBytes m) ≤ 276
+pub most-bytes : (m : Making) → Fits m → length (patternBytes m) ≤ mostBytes
 most-bytes m f = omega (arith, pattern-length m, f .few, f .few-conditions)

@@ -9,7 +9,7 @@ use lib.ListN.{length}
 use Rattle.numbers.specs.Numbers.{oneIf}
 use Rattle.numbers.specs.Bytes.{wordBytes}
 use Rattle.patterns.specs.declared.Condition.{Condition}
-use Rattle.patterns.specs.Patterns.{mostVariables, mostConditions}
+use Rattle.patterns.specs.Patterns.{headerBytes, mostVariables, conditionBytes, mostConditions}
 use Rattle.form.specs.Form.{Member, Side, Operand, When, Making, names}
 use Rattle.form.specs.Form.Operand.{constant, other}
 
@@ -93,3 +93,7 @@ pub record Fits (m : Making) : Type 0 where
   pub few : length (names (m .sets)) ≤ mostVariables
   pub few-conditions : length (m .whens) ≤ mostConditions
   pub short : m .duration < 2 ^ 40
+
+-- the longest pattern
+abbrev pub mostBytes : ℕ
+mostBytes = headerBytes + mostVariables + conditionBytes * mostConditions

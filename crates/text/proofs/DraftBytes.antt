@@ -10,7 +10,7 @@ use Rattle.numbers.specs.Bytes.{wordBytes}
 use Rattle.numbers.specs.Put.{Put}
 use Rattle.numbers.proofs.Put.{put-then}
 use Rattle.form.specs.Form.{Member, When, Making, names}
-use Rattle.form.specs.Packed.{headerBits, whenBits, memberBytes, patternBytes, Fits}
+use Rattle.form.specs.Packed.{headerBits, whenBits, memberBytes, patternBytes, Fits, mostBytes}
 use Rattle.form.specs.Items.{itemsOf, setsIn}
 use Rattle.form.proofs.Making.{flat-map, sets-items, whens-items, duration-items}
 use Rattle.form.proofs.WordBytes.{word-length}
@@ -31,7 +31,7 @@ module _ (d : Draft) (s : Small d) (f : DraftFits d) where
       words-length (λ (w : ℕ). w) (take (d .c) (d .conditions))
       ∙ ap (λ (n : ℕ). 8 * n) (length-take-le (d .c) (d .conditions) (omega (arith, s .conditions, f .few-conditions)))
 
-  module _ (start stored : List ℕ) (word : ℕ) (room : 276 ≤ length start)
+  module _ (start stored : List ℕ) (word : ℕ) (room : mostBytes ≤ length start)
       (e : stored ≡ written start 0 (wordBytes word)) where
     header-put : Put start stored 0 (wordBytes word) 8
     header-put =
@@ -51,7 +51,7 @@ module _ (d : Draft) (s : Small d) (f : DraftFits d) where
       pub draft-put :
           (after : List ℕ) (r : ℕ) → word ≡ headerBits (d .n) (d .c) (d .duration)
           → Put memory after v (flatMap wordBytes (take (d .c) (d .conditions))) r
-          → Put start after 0 (draftBytes d) r × (r ≤ 276)
+          → Put start after 0 (draftBytes d) r × (r ≤ mostBytes)
       unfolding draftBytes
       draft-put after r h p =
           let whole = put-then header-put (put-then q p) in (

@@ -2,10 +2,9 @@
 use mathlib.Core.Path.{_≡_}
 use mathlib.Core.Bool.{Bool, true, false}
 use mathlib.Core.List.{List, _++_, flatMap}
-use Prim.Native.Nat.{ℕ, _+_, _*_}
+use Prim.Native.Nat.{ℕ}
 use lib.ListN.{take}
 use Rattle.numbers.specs.Bytes.{wordBytes}
-use Rattle.patterns.specs.Patterns.{headerBytes, mostVariables, conditionBytes, mostConditions}
 use Rattle.form.specs.Form.{Making, InForm}
 use Rattle.form.specs.Lines.{FirstBad}
 use Rattle.form.specs.Items.{itemsOf}
@@ -20,10 +19,6 @@ pub data TextRead (text : List ℕ) (r : Reading) : Type 0 where
       (m : Making) → InForm text m → DraftOf (itemsOf m) (r .draft) → Small (r .draft) → r .bad ≡ false
       → TextRead text r
   bad : FirstBad text (r .line) → r .bad ≡ true → TextRead text r
-
--- the longest pattern
-abbrev pub mostBytes : ℕ
-mostBytes = headerBytes + mostVariables + conditionBytes * mostConditions
 
 -- the bytes of the pattern of a draft
 unfoldable pub draftBytes : Draft → List ℕ

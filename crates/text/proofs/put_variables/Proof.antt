@@ -6,11 +6,12 @@ use lib.ListN.{length, take, length-set}
 use borrow.Author.Needs.{needs}
 use Rattle.numbers.specs.Put.{Put}
 use Rattle.numbers.proofs.Put.{put-none, put-word-turn}
+use Rattle.form.specs.Packed.{mostBytes}
 use Rattle.text.proofs.put_variables.Statement.{statement}
 use Rattle.text.proofs.put_variables.Tie as tie
 
 abbrev Inv-loop : tie.InvT-loop
-Inv-loop bytes₀ d n v₀ bytes v = (v ≤ n) × (276 ≤ length bytes) × Put bytes₀ bytes 8 (take v (d .variables)) (8 + v)
+Inv-loop bytes₀ d n v₀ bytes v = (v ≤ n) × (mostBytes ≤ length bytes) × Put bytes₀ bytes 8 (take v (d .variables)) (8 + v)
 
 abbrev μ-loop : tie.MeasureT-loop
 μ-loop bytes₀ d n v₀ bytes v = n - v
