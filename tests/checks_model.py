@@ -59,7 +59,7 @@ def variable_keeps_rules(number, zero, before):
 
 
 def condition_keeps_rules(n, variable, attribute, operator, form, variable2, attribute2, zero, constant):
-    if variable >= n or attribute in (6, 7) or operator in (5, 6, 7) or zero != 0:
+    if variable >= n or attribute in (6, 7) or operator in (6, 7) or zero != 0:
         return False
     if form == 0:
         return variable2 == 0 and attribute2 == 0
@@ -311,9 +311,9 @@ BENCH_PATTERN = pattern(BENCH_VARIABLES, BENCH_CONDITIONS)
 # Twelve variables in sets of 1, 2, 3 and 6, and 32 conditions in which no field is the same throughout
 MOST_VARIABLES = [0x18, 0x20, 0x28, 0x30, 0x30, 0x38, 0x40, 0x40, 0x48, 0x40, 0x40, 0x48]
 MOST_CONDITIONS = [
-    condition(i % 12, i // 2 % 6, i // 2 % 5, second=((i + 5) % 12, i // 3 % 6))
+    condition(i % 12, i // 2 % 6, i // 4 % 6, second=((i + 5) % 12, i // 3 % 6))
     if i % 2
-    else condition(i % 12, i // 2 % 6, i // 2 % 5, 2**32 - 1 - 3 * i)
+    else condition(i % 12, i // 2 % 6, i // 4 % 6, 2**32 - 1 - 3 * i)
     for i in range(32)
 ]
 
@@ -324,6 +324,9 @@ def one(*conditions, n=3):
 
 
 GOOD = condition(0, 0, 0)
+
+# Constants at the ends of what is read with a sign, and of what is read without one
+EDGES = (0, 2**31 - 1, 2**31, 2**32 - 1)
 
 PATTERNS = [
     "# Patterns: code, place, n, c, duration, rest 0 where all places beyond the counts are 0: set numbers, + for a group;",
@@ -404,11 +407,29 @@ PATTERNS = [
     "# Attribute 4, 5, 6, 7",
     *[one(condition(0, attribute, 0)) for attribute in (4, 5, 6, 7)],
     "# Attribute 5, 6, 7 of the last variable, with the greatest operator and a constant; of form 1",
-    *[one(condition(2, attribute, 4, 255)) for attribute in (5, 6, 7)],
+    *[one(condition(2, attribute, 5, 255)) for attribute in (5, 6, 7)],
     *[one(condition(0, attribute, 0, second=(1, 0))) for attribute in (5, 6, 7)],
-    "# Operator 4, 5, 6, 7; the same beside wave",
+    "# Operator 4, 5, 6, 7; the same beside wave; the same of form 1, beside core and beside wave",
     *[one(condition(0, 0, operator)) for operator in (4, 5, 6, 7)],
     *[one(condition(0, 5, operator)) for operator in (4, 5, 6, 7)],
+    *[one(condition(0, 0, operator, second=(1, 0))) for operator in (4, 5, 6, 7)],
+    *[one(condition(0, 5, operator, second=(1, 5))) for operator in (4, 5, 6, 7)],
+    "# Operator 5 with each attribute: the constants 0, 2^31 - 1, 2^31 and the largest",
+    *[one(*[condition(2, attribute, 5, constant) for constant in EDGES]) for attribute in range(6)],
+    "# Operator 5 of form 1: each attribute on the first side, on the second, and on both sides of one variable",
+    one(*[condition(0, attribute, 5, second=(2, 4)) for attribute in range(6)]),
+    one(*[condition(2, 3, 5, second=(0, attribute)) for attribute in range(6)]),
+    one(*[condition(1, attribute, 5, second=(1, attribute)) for attribute in range(6)]),
+    "# Operator 5 saves no condition: variable n, second variable n, second attribute 6, a constant with form 1",
+    one(condition(3, 0, 5)),
+    one(condition(0, 0, 5, second=(3, 0))),
+    one(condition(0, 0, 5, second=(1, 6))),
+    one(condition(0, 0, 5, 1, second=(1, 0))),
+    "# The same: with form 0 a second variable and a second attribute; the highest and the lowest of the zero bits",
+    one(condition(0, 0, 5, second=(1, 0), form=0)),
+    one(condition(0, 0, 5, second=(0, 1), form=0)),
+    one(condition(0, 0, 5, zero=1 << 13)),
+    one(condition(0, 0, 5, second=(1, 0), zero=1)),
     "# Constants: the largest beside core, the sign bit beside amount; beside wave 255, 256, 2^31 and the largest",
     one(condition(0, 0, 0, 2**32 - 1), condition(1, 4, 1, 2**31)),
     one(*[condition(0, 5, 1, constant) for constant in (255, 256, 2**31, 2**32 - 1)]),
@@ -453,25 +474,33 @@ PATTERNS = [
     one(condition(0, 0, 0, second=(1, 0), zero=1)),
     one(condition(0, 5, 0, zero=1 << 13)),
     one(condition(0, 5, 0, second=(1, 5), zero=1)),
-    "# Conditions 1 and 3 bad; the last of 32 bad, by operator 5, by attribute 6, by second attribute 6",
+    "# Conditions 1 and 3 bad; the last of 32 bad, by operator 6, by attribute 6, by second attribute 6",
     one(GOOD, condition(0, 7, 0), GOOD, condition(0, 0, 7)),
-    pattern(MOST_VARIABLES, MOST_CONDITIONS[:31] + [condition(0, 0, 5)]),
+    pattern(MOST_VARIABLES, MOST_CONDITIONS[:31] + [condition(0, 0, 6)]),
     pattern(MOST_VARIABLES, MOST_CONDITIONS[:31] + [condition(0, 6, 0)]),
     pattern(MOST_VARIABLES, MOST_CONDITIONS[:31] + [condition(0, 0, 0, second=(11, 6))]),
+    "# The last of 32 good, with operator 5",
+    pattern(MOST_VARIABLES, MOST_CONDITIONS[:31] + [condition(0, 0, 5)]),
     "# The first bad condition: attributes 4 to 7 in a row, on either side; 7 then 6; a good one behind a bad one",
     one(*[condition(0, attribute, 0) for attribute in (4, 5, 6, 7)]),
     one(*[condition(0, 5, 0, second=(1, attribute)) for attribute in (4, 5, 6, 7)]),
     one(condition(0, 5, 0), condition(0, 0, 0, second=(1, 7)), condition(0, 6, 0)),
     one(GOOD, condition(0, 6, 0), condition(0, 5, 0)),
+    "# The first bad condition: operators 4 to 7 in a row, of either form; 7 then 6; a good one behind a bad one",
+    one(*[condition(0, 0, operator) for operator in (4, 5, 6, 7)]),
+    one(*[condition(0, 0, operator, second=(1, 0)) for operator in (4, 5, 6, 7)]),
+    one(condition(0, 0, 5), condition(0, 0, 7), condition(0, 0, 6)),
+    one(GOOD, condition(0, 0, 6), condition(0, 0, 5)),
     "# 2 before length: edition, n, c and zero bits broken, with a byte missing or too many",
     pattern([], n=1, edition=2),
     pattern([0x10] * 2, n=0),
     pattern([0x10], c=33),
     pattern([0x10] * 2, n=1, zero=1),
-    "# 2 before 3 and 4: a good length, a broken variable and a broken condition; 2 before 4: attribute 6",
+    "# 2 before 3 and 4: a good length, a broken variable and a broken condition; 2 before 4: attribute 6, operator 6",
     pattern([0x20], [condition(1, 0, 0)], edition=0),
     pattern([0x20], [condition(1, 0, 0)], zero=4),
     pattern([0x10], [condition(0, 6, 0)], edition=2),
+    pattern([0x10], [condition(0, 0, 6)], edition=2),
     "# Length before 3: a broken variable, and a byte too many or missing",
     pattern([0x20, 0x10], n=1),
     pattern([0x10, 0x30], [GOOD[:-2]]),
@@ -486,6 +515,8 @@ PATTERNS = [
     pattern([0x10, 0x10, 0x11], [condition(0, 0, 0, zero=1)]),
     pattern([0x10, 0x10, 0x30], [condition(0, 6, 0)]),
     pattern([0x10, 0x10, 0x30], [condition(0, 5, 0, second=(1, 6))]),
+    "# 3 before 4: the last variable bad, and the first condition by operator 6",
+    pattern([0x10, 0x10, 0x30], [condition(0, 0, 6)]),
 ]
 
 # ---- Writing ----
@@ -496,6 +527,9 @@ def write(folder):
     lines = [line_of(row) for row in rows]
     codes = [line.split(" ")[0] for row, line in zip(rows, lines) if not row.startswith("#")]
     assert all(codes.count(str(code)) >= 12 for code in range(8)), "each refusal at least twelve times"
+    checked = [check_pattern(bytes.fromhex(row.removeprefix("pattern"))) for row in PATTERNS if not row.startswith("#")]
+    operators = [operator for *_, conditions in checked for _, _, operator, *_ in conditions]
+    assert all(operators.count(operator) >= 8 for operator in range(6)), "each operator taken at least eight times"
     table = "".join(row + "\n" for row in rows)
     assert len(table) <= 65536, "the program reads so much"
     for name, text in ("stdin", table), ("stdout", "".join(line + "\n" for line in lines)):
