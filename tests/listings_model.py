@@ -34,6 +34,7 @@ def pattern(sets, conditions, duration):
 
 
 CORE, TYPE, CLASS, SLOT, AMOUNT, WAVE = range(6)
+NOT_EQUAL = 5
 
 
 def constant_is(variable, attribute, value):
@@ -78,6 +79,11 @@ EIGHT_SETS = pattern([[1, 0], [0, 1], [1, 1], [0, 0], [1], [0], [1], [0]], JOINS
 ONE = pattern([[0]], [], 0)
 TWO = pattern([[0], [1]], [(1, AMOUNT, 1, 1, 1, SLOT, 0)], 7)
 WAVES = pattern([[0], [1]], [constant_is(0, WAVE, 255), same(0, WAVE, 1), (1, WAVE, 3, 1, 1, AMOUNT, 0)], 7)
+DIFFERENT = pattern(
+    [[1], [0]],
+    [(0, CORE, NOT_EQUAL, 0, 0, 0, 3), (0, CORE, NOT_EQUAL, 1, 1, CORE, 0), (1, SLOT, NOT_EQUAL, 1, 1, AMOUNT, 0)],
+    7,
+)
 SMALL = header(2, 0, 7)
 
 CASES = [
@@ -92,6 +98,7 @@ CASES = [
     ("one variable, no condition", ONE, 16),
     ("two sets of one, a condition of one variable twice", TWO, 40),
     ("two sets of one, three conditions on waves", WAVES, 24),
+    ("two sets of one, three conditions with not equal", DIFFERENT, 24),
     ("largest: two sets of six group variables", LARGEST, 6144),
     ("largest: longer slice", LARGEST, 6151),
     ("largest: one too short", LARGEST, 6143),
@@ -104,7 +111,7 @@ CASES = [
     ("refused 2 before 1: thirteen variables", header(13, 0, 0), 20),
     ("refused 3: the second set is missing", SMALL + b"\x10\x30", 20),
     ("refused 3: a set of seven", header(7, 0, 7) + b"\x10" * 7, 20),
-    ("refused 4: operator 5", pattern([[0], [0]], [constant_is(0, CORE, 1), (1, 0, 5, 0, 0, 0, 0)], 7), 20),
+    ("refused 4: operator 6", pattern([[0], [0]], [(0, CORE, NOT_EQUAL, 0, 0, 0, 1), (1, CORE, 6, 0, 0, 0, 0)], 7), 20),
     ("refused 4: attribute 6", pattern([[0], [0]], [constant_is(0, WAVE, 1), constant_is(1, 6, 1)], 7), 20),
     ("refused 4: second attribute 6", pattern([[0], [0]], [same(0, WAVE, 1), (0, WAVE, 0, 1, 1, 6, 0)], 7), 20),
     ("refused 4 before 12: no such variable", pattern([[0], [0]], [(0, 0, 0, 1, 2, 0, 0)], 7), 3),
@@ -140,7 +147,7 @@ def check(data):
         form, second, attribute2 = word >> 53 & 1, word >> 49 & 15, word >> 46 & 7
         zero, value = word >> 32 & 0x3FFF, word & 0xFFFFFFFF
         rest = value or second >= n or attribute2 > WAVE if form else second or attribute2
-        if first >= n or attribute > WAVE or operator > 4 or zero or rest:
+        if first >= n or attribute > WAVE or operator > NOT_EQUAL or zero or rest:
             return 4, i, None
         conditions.append((first, second if form else None))
     return 0, 0, (sets, groups, conditions)

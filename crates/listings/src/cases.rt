@@ -76,6 +76,16 @@ pub(crate) fn waves(title: &[u8], lent: usize) {
     list(title, &pattern[0..34], lent);
 }
 
+// Sets {0+} and {1}; variable 0's core is not 3 and not that of variable 1, whose slot is not its amount.
+pub(crate) fn different(title: &[u8], lent: usize) {
+    let mut pattern = blank();
+    put(&mut pattern, 0, b"\x12\x03\x00\x00\x00\x00\x00\x07\x18\x20");
+    put(&mut pattern, 10, b"\x01\x40\x00\x00\x00\x00\x00\x03");
+    put(&mut pattern, 18, b"\x01\x62\x00\x00\x00\x00\x00\x00");
+    put(&mut pattern, 26, b"\x17\x63\x00\x00\x00\x00\x00\x00");
+    list(title, &pattern[0..34], lent);
+}
+
 // Two sets of six group variables: the most steps that a pattern can have.
 pub(crate) fn largest(title: &[u8], lent: usize) {
     let mut pattern = blank();
@@ -102,12 +112,12 @@ pub(crate) fn eight_sets(title: &[u8], lent: usize) {
     list(title, &pattern, lent);
 }
 
-// Its second condition has operator 5.
+// Its first condition has operator 5, and its second operator 6.
 pub(crate) fn operator(title: &[u8], lent: usize) {
     let mut pattern = blank();
     put(&mut pattern, 0, b"\x12\x02\x00\x00\x00\x00\x00\x07\x10\x20");
-    put(&mut pattern, 10, b"\x00\x00\x00\x00\x00\x00\x00\x01");
-    put(&mut pattern, 18, b"\x11\x40\x00\x00\x00\x00\x00\x00");
+    put(&mut pattern, 10, b"\x01\x40\x00\x00\x00\x00\x00\x01");
+    put(&mut pattern, 18, b"\x11\x80\x00\x00\x00\x00\x00\x00");
     list(title, &pattern[0..26], lent);
 }
 

@@ -36,6 +36,7 @@ fn sets() {
     );
     cases::two_sets(b"two sets of one, a condition of one variable twice", 40);
     cases::waves(b"two sets of one, three conditions on waves", 24);
+    cases::different(b"two sets of one, three conditions with not equal", 24);
     cases::largest(b"largest: two sets of six group variables", 6144);
     cases::largest(b"largest: longer slice", 6151);
     cases::largest(b"largest: one too short", 6143);
@@ -71,7 +72,7 @@ fn refused() {
         b"\x17\x00\x00\x00\x00\x00\x00\x07\x10\x10\x10\x10\x10\x10\x10",
         20,
     );
-    cases::operator(b"refused 4: operator 5", 20);
+    cases::operator(b"refused 4: operator 6", 20);
     cases::attribute(b"refused 4: attribute 6", 20);
     cases::second_attribute(b"refused 4: second attribute 6", 20);
     cases::second_variable(b"refused 4 before 12: no such variable", 3);
