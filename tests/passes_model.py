@@ -20,6 +20,9 @@ MOST_LIVE = 256
 WORK_PER_READING = 160
 PAST, END, GAP = 1, 2, 3
 
+# how many bytes of a table the program reads, TABLE_ROOM there
+TABLE_BYTES = 131072
+
 # ---- Rules 3.1 to 6.3. A reading is a tuple of (variable, record), oldest first. ----
 
 
@@ -39,7 +42,7 @@ def value(record, attribute):
 
 
 def compare(operator, a, b):
-    return (a == b, a < b, a <= b, a > b, a >= b)[operator]
+    return (a == b, a < b, a <= b, a > b, a >= b, a != b)[operator]
 
 
 def holds(condition, first, second):
@@ -196,6 +199,12 @@ def lines_of(row):
 
 # ---- The table ----
 
+CORE, TYPE, CLASS, SLOT, AMOUNT, WAVE = range(6)
+EQUAL, LESS, LESS_EQUAL, GREATER, GREATER_EQUAL, NOT_EQUAL = range(6)
+
+# by attribute, the field of an event that it comes from
+FIELDS = ("core", "event_type", "event_type", "slot", "amount", "wave")
+
 
 def plain(*variables, conditions=(), duration=100):
     """A pattern by (set number, group flag) of each variable."""
@@ -308,8 +317,11 @@ REFUSED = [
     case(6, "23" + BENCH[2:], [BENCH_RECORDS[:-2]]),
     "# 3 at variable 1: its set is 3",
     case(6, plain((1, 0), (3, 0)), THRICE),
-    "# 4 at condition 2: its operator is 5",
-    case(6, plain((1, 0), conditions=(condition(0, 0, 0), condition(0, 0, 4), condition(0, 0, 5))), THRICE),
+    "# 4 at condition 2: its operator is 6, its operator is 7; at condition 1, of form 1: 6 and then 7, 7 and then 6",
+    case(6, plain((1, 0), conditions=(condition(0, 0, 0), condition(0, 0, 5), condition(0, 0, 6))), THRICE),
+    case(6, plain((1, 0), conditions=(condition(0, 0, 4), condition(0, 0, 5), condition(0, 0, 7))), THRICE),
+    case(6, plain((1, 0), conditions=[condition(0, 0, operator, second=(0, 1)) for operator in (5, 6, 7)]), THRICE),
+    case(6, plain((1, 0), conditions=[condition(0, 0, operator, second=(0, 1)) for operator in (5, 7, 6)]), THRICE),
     "# 4 at condition 1: its attribute is 6, and the block broken too; its second attribute is 6",
     case(6, plain((1, 0), conditions=(condition(0, 5, 0), condition(0, 6, 0))), [gap(10, wave=1)]),
     case(6, plain((1, 0), conditions=(condition(0, 5, 0), condition(0, 5, 0, second=(0, 6)))), THRICE),
@@ -334,7 +346,7 @@ REFUSED = [
     case(28, BENCH, [BENCH_RECORDS], limit=256, work=40959),
     case(28, BENCH, [BENCH_RECORDS], limit=5, work=0),
     "# 8 after 4, and after 7: pattern or block broken, L 257 and no working memory",
-    case(6, plain((1, 0), conditions=(condition(0, 0, 5),)), THRICE, limit=257, work=0),
+    case(6, plain((1, 0), conditions=(condition(0, 0, 6),)), THRICE, limit=257, work=0),
     case(6, BENCH, [event(10), event(10)], limit=257, work=0),
     "# 8 before the pass: L 0 or working memory short, where the pass would give 9, 10 or 11",
     case(4, GROUP, steps(MOST_BINDINGS + 1), limit=0),
@@ -432,7 +444,9 @@ RULE = [
 
 # The examples that the rules give beside their clauses: caption, pattern, records, and the lines that the rules state
 BY_TYPE = (condition(0, 1, 0, 0), condition(1, 1, 0, 1))
+BIND_THEN_DRAW = (condition(0, CLASS, EQUAL, 0), condition(1, CLASS, EQUAL, 2))
 ONE_CORE = plain((1, 0), (1, 1), conditions=BY_TYPE + (condition(0, 0, 0, second=(1, 0)),))
+OTHER_CORE = plain((1, 1), (2, 0), conditions=BIND_THEN_DRAW + (condition(1, CORE, NOT_EQUAL, second=(0, CORE)),))
 EXAMPLES = [
     (
         "4.2, a merged state: 0 loops until 1 is bound",
@@ -454,6 +468,12 @@ EXAMPLES = [
         ["2 0@0 0@1", "2 0@1"],
     ),
     (
+        "5.3, not equal: an event of a core that is bound, and one of another core",
+        OTHER_CORE,
+        [event(10, 1), event(11, 2), event(12, 2, 33), event(13, 3, 33)],
+        ["2 0@0 0@1 1@3", "2 0@1 1@3"],
+    ),
+    (
         "5.5, an event that must be bound",
         plain((1, 0), (1, 1), conditions=BY_TYPE),
         [event(10), event(11, event_type=1), event(12, event_type=1)],
@@ -470,15 +490,12 @@ EXAMPLE_ROWS = [
 
 # ---- The table: waves ----
 
-CORE, TYPE, CLASS, SLOT, AMOUNT, WAVE = range(6)
-EQUAL, LESS, LESS_EQUAL, GREATER, GREATER_EQUAL = range(5)
 
-
-def constant(operator, number, waves, met):
-    """Events of these waves, and which of them stand so to a constant: with duration 0 each one is a reading."""
-    pattern = plain((1, 0), conditions=(condition(0, WAVE, operator, number),), duration=0)
-    lines = [f"{END if i == len(waves) - 1 else PAST} 0@{i}" for i in met]
-    return pattern, [event(10 + i, wave=wave) for i, wave in enumerate(waves)], lines
+def constant(attribute, operator, number, values, met):
+    """Events of these values, and which of them stand so to a constant: with duration 0 each one is a reading."""
+    pattern = plain((1, 0), conditions=(condition(0, attribute, operator, number),), duration=0)
+    lines = [f"{END if i == len(values) - 1 else PAST} 0@{i}" for i in met]
+    return pattern, [event(10 + i, **{FIELDS[attribute]: value}) for i, value in enumerate(values)], lines
 
 
 def own(conditions, events, lines):
@@ -487,36 +504,48 @@ def own(conditions, events, lines):
     return plain((1, 1), conditions=joins), [event(10 + i, **one) for i, one in enumerate(events)], lines
 
 
-def joined_to(first, operator, second, bind, draws, lines):
-    """A bind, and the draw that it is joined to."""
-    conditions = (*BIND_THEN_DRAW, condition(0, first, operator, second=(1, second)))
+def joined_to(first, operator, second, bind, draws, lines, left=0):
+    """A bind, and the draw that it is joined to: the bind on the left of the operator, or with left 1 the draw."""
+    sides = (0, first), (1, second)
+    conditions = (*BIND_THEN_DRAW, condition(*sides[left], operator, second=sides[1 - left]))
     records = [event(10, **bind)] + [event(11 + i, event_type=33, **draw) for i, draw in enumerate(draws)]
     return plain((1, 0), (2, 0), conditions=conditions), records, lines
 
 
-BIND_THEN_DRAW = (condition(0, CLASS, EQUAL, 0), condition(1, CLASS, EQUAL, 2))
 RISING_WAVE = plain((1, 0), (2, 0), conditions=(condition(0, WAVE, LESS, second=(1, WAVE)),))
 ONE_WAVE = plain((1, 0), (1, 1), conditions=BY_TYPE + (condition(0, WAVE, EQUAL, second=(1, WAVE)),))
 NO_LOWER = plain((1, 1), (2, 0), conditions=BY_TYPE + (condition(1, WAVE, GREATER_EQUAL, second=(0, WAVE)),))
 NO_WAVE = plain((1, 1), conditions=(condition(0, WAVE, EQUAL, 0),))
-MINUS_ONE = 2**32 - 1
+
+# Amounts as their bits
+MINUS_ONE, LEAST, GREATEST = 2**32 - 1, 2**31, 2**31 - 1
+
+
+def captioned(table, lent):
+    """The rows of a table: each caption, and then its cases."""
+    return [
+        row
+        for caption, cases in table.items()
+        for row in [f"# {caption}"] + [case(lent, pattern, records, limit=16) for pattern, records, _ in cases]
+    ]
+
 
 # Of each caption the cases: pattern, records, and the lines that must come of them, worked out by hand
 WAVES = {
     "Waves beside a constant, at the edges of each operator; no constant has a sign there": [
-        constant(EQUAL, 255, [254, 255], [1]),
-        constant(EQUAL, 256, [0], []),
-        constant(EQUAL, 2**32 - 1, [255], []),
-        constant(LESS, 255, [254, 255], [0]),
-        constant(LESS, 256, [255], [0]),
-        constant(LESS, 2**31, [0, 255], [0, 1]),
-        constant(LESS_EQUAL, 128, [128, 129], [0]),
-        constant(LESS_EQUAL, 2**32 - 1, [0, 255], [0, 1]),
-        constant(GREATER, 127, [127, 128], [1]),
-        constant(GREATER, 2**32 - 1, [0, 255], []),
-        constant(GREATER_EQUAL, 255, [254, 255], [1]),
-        constant(GREATER_EQUAL, 256, [255], []),
-        constant(GREATER_EQUAL, 2**31, [0, 255], []),
+        constant(WAVE, EQUAL, 255, [254, 255], [1]),
+        constant(WAVE, EQUAL, 256, [0], []),
+        constant(WAVE, EQUAL, 2**32 - 1, [255], []),
+        constant(WAVE, LESS, 255, [254, 255], [0]),
+        constant(WAVE, LESS, 256, [255], [0]),
+        constant(WAVE, LESS, 2**31, [0, 255], [0, 1]),
+        constant(WAVE, LESS_EQUAL, 128, [128, 129], [0]),
+        constant(WAVE, LESS_EQUAL, 2**32 - 1, [0, 255], [0, 1]),
+        constant(WAVE, GREATER, 127, [127, 128], [1]),
+        constant(WAVE, GREATER, 2**32 - 1, [0, 255], []),
+        constant(WAVE, GREATER_EQUAL, 255, [254, 255], [1]),
+        constant(WAVE, GREATER_EQUAL, 256, [255], []),
+        constant(WAVE, GREATER_EQUAL, 2**31, [0, 255], []),
     ],
     "Two events that differ in wave and time alone: the wave rises, and falls": [
         (RISING_WAVE, [event(10), event(11, wave=1)], ["2 0@0 1@1"]),
@@ -588,17 +617,149 @@ BENCH_BY_WAVE = plain(
         *(condition(0, WAVE, EQUAL, second=(v, WAVE)) for v in (1, 2)),
     ),
 )
-WAVE_ROWS = [
-    row
-    for caption, cases in WAVES.items()
-    for row in [f"# {caption}"] + [case(20, pattern, records, limit=16) for pattern, records, _ in cases]
-] + [
+WAVE_ROWS = captioned(WAVES, 20) + [
     "# P1 with a wave in each event, which the pattern does not ask for; P1 with waves in place of cores",
     case(28, BENCH, BENCH_WITH_WAVES, limit=5),
     case(28, BENCH_BY_WAVE, BENCH_WAVES, limit=5),
 ]
 
-TABLE = ROWS + EXAMPLE_ROWS + LENT + REFUSED + LIVE + RULE + WAVE_ROWS
+# ---- The table: not equal ----
+
+
+def differs(first, second, bind, draws, lines):
+    """A bind, and the draw that differs from it: the bind on the left of the operator, and the draw."""
+    return [joined_to(first, NOT_EQUAL, second, bind, draws, lines, left) for left in (0, 1)]
+
+
+def gathered(operator, uploads, draws, lines):
+    """A bind, a group of uploads, and the draw whose core stands so to the cores of all uploads, on either side. The
+    bind is there so that no upload but the first begins a group."""
+    records = [event(10)] + [event(11 + i, core, 17) for i, core in enumerate(uploads)]
+    records += [event(20 + i, core, 33) for i, core in enumerate(draws)]
+    by_class = tuple(condition(v, CLASS, EQUAL, v) for v in range(3))
+    joins = condition(2, CORE, operator, second=(1, CORE)), condition(1, CORE, operator, second=(2, CORE))
+    return [(plain((1, 0), (2, 1), (3, 0), conditions=by_class + (join,)), records, lines) for join in joins]
+
+
+def of_cores(*variables_and_cores):
+    """An event for each: of the type that BY_TYPE asks of the variable, and of the core."""
+    return [event(10 + i, core, variable) for i, (variable, core) in enumerate(variables_and_cores)]
+
+
+def all_different(*sets):
+    """Variables of these sets, of which no two are bound to events of one core."""
+    pairs = [(u, v) for v in range(len(sets)) for u in range(v)]
+    joins = [condition(u, CORE, NOT_EQUAL, second=(v, CORE)) for u, v in pairs]
+    return plain(*[(number, 0) for number in sets], conditions=joins)
+
+
+NEITHER_CORE = plain((1, 0), conditions=[condition(0, CORE, NOT_EQUAL, core) for core in (1, 2)], duration=0)
+CORES_APART = condition(0, CORE, NOT_EQUAL, second=(1, CORE))
+ONE_AND_GROUP = plain((1, 0), (1, 1), conditions=BY_TYPE + (CORES_APART,))
+GROUP_AND_GROUP = plain((1, 1), (1, 1), conditions=BY_TYPE + (CORES_APART,))
+
+# As in WAVES: of each caption the cases, with their lines worked out by hand
+DIFFERENT = {
+    "Not equal beside a constant, one below it, the same and one above: of each attribute without a sign": [
+        constant(CORE, NOT_EQUAL, 2, [1, 2, 3], [0, 2]),
+        constant(TYPE, NOT_EQUAL, 33, [32, 33, 34], [0, 2]),
+        constant(CLASS, NOT_EQUAL, 2, [31, 32, 63, 64], [0, 3]),
+        constant(SLOT, NOT_EQUAL, 7, [6, 7, 8], [0, 2]),
+        constant(WAVE, NOT_EQUAL, 128, [127, 128, 129], [0, 2]),
+    ],
+    "The same at the ends: slots beside 0, 2^31 and 2^32 - 1; beside a constant that no core, class or wave can be": [
+        constant(SLOT, NOT_EQUAL, 0, [0, 1, 2**32 - 1], [1, 2]),
+        constant(SLOT, NOT_EQUAL, 2**31, [2**31 - 1, 2**31, 2**31 + 1], [0, 2]),
+        constant(SLOT, NOT_EQUAL, 2**32 - 1, [2**32 - 2, 2**32 - 1, 0], [0, 2]),
+        constant(CORE, NOT_EQUAL, 64 + 5, [5, 63], [0, 1]),
+        constant(CLASS, NOT_EQUAL, 6, [0, 255], [0, 1]),
+        constant(WAVE, NOT_EQUAL, 256, [0, 255], [0, 1]),
+    ],
+    "Amounts beside 5, 0, -1, -2147483648 and 2147483647, and each of the last two beside the other": [
+        constant(AMOUNT, NOT_EQUAL, 5, [4, 5, 6], [0, 2]),
+        constant(AMOUNT, NOT_EQUAL, 0, [MINUS_ONE, 0, 1], [0, 2]),
+        constant(AMOUNT, NOT_EQUAL, MINUS_ONE, [MINUS_ONE - 1, MINUS_ONE, 0], [0, 2]),
+        constant(AMOUNT, NOT_EQUAL, LEAST, [GREATEST, LEAST, LEAST + 1], [0, 2]),
+        constant(AMOUNT, NOT_EQUAL, GREATEST, [GREATEST - 1, GREATEST, LEAST], [0, 2]),
+    ],
+    "Two of them: any core but 1 and 2": [
+        (NEITHER_CORE, [event(10 + core, core) for core in range(4)], ["1 0@0", "2 0@3"]),
+    ],
+    "A draw that differs from a bind, each on the left in turn: lower and higher in core, wave, slot and amount": [
+        *differs(CORE, CORE, {"core": 2}, [{"core": 2}, {"core": 1}], ["2 0@0 1@2"]),
+        *differs(CORE, CORE, {"core": 2}, [{"core": 2}, {"core": 3}], ["2 0@0 1@2"]),
+        *differs(WAVE, WAVE, {"wave": 255}, [{"wave": 255}, {"wave": 0}], ["2 0@0 1@2"]),
+        *differs(SLOT, SLOT, {"slot": 2**31}, [{"slot": 2**31}, {"slot": 2**32 - 1}], ["2 0@0 1@2"]),
+        *differs(AMOUNT, AMOUNT, {"amount": MINUS_ONE}, [{"amount": MINUS_ONE}, {"amount": 1}], ["2 0@0 1@2"]),
+        *differs(AMOUNT, AMOUNT, {"amount": GREATEST}, [{"amount": GREATEST}, {"amount": LEAST}], ["2 0@0 1@2"]),
+    ],
+    "The same of two attributes: class and core, core and type, which is 33": [
+        *differs(CLASS, CORE, {}, [{"core": 0}, {"core": 1}], ["2 0@0 1@2"]),
+        *differs(CORE, TYPE, {"core": 33}, [{}], []),
+        *differs(CORE, TYPE, {"core": 32}, [{}], ["2 0@0 1@1"]),
+    ],
+    "Slot and amount: 4294967295 is not -1, 2147483648 is not -2147483648, 2147483647 is 2147483647": [
+        *differs(SLOT, AMOUNT, {"slot": 2**32 - 1}, [{"amount": MINUS_ONE}], ["2 0@0 1@1"]),
+        *differs(SLOT, AMOUNT, {"slot": 2**31}, [{"amount": LEAST}], ["2 0@0 1@1"]),
+        *differs(SLOT, AMOUNT, {"slot": 2**31 - 1}, [{"amount": GREATEST}], []),
+        *differs(AMOUNT, SLOT, {"amount": MINUS_ONE}, [{"slot": 2**32 - 1}], ["2 0@0 1@1"]),
+        *differs(AMOUNT, SLOT, {"amount": LEAST}, [{"slot": 2**31}], ["2 0@0 1@1"]),
+        *differs(AMOUNT, SLOT, {"amount": GREATEST}, [{"slot": 2**31 - 1}], []),
+    ],
+    "One variable on both sides: slot and amount, as above; type and class; an attribute is never other than itself": [
+        own(
+            [(SLOT, NOT_EQUAL, AMOUNT)],
+            [{"slot": 2**32 - 1, "amount": MINUS_ONE}, {"slot": 2**31, "amount": LEAST}, {"slot": 3, "amount": 3}],
+            ["2 0@0 0@1", "2 0@1"],
+        ),
+        own([(AMOUNT, NOT_EQUAL, SLOT)], [{"slot": 2**31 - 1, "amount": GREATEST}, {"amount": 1}], ["2 0@1"]),
+        own([(TYPE, NOT_EQUAL, CLASS)], [{"event_type": 0}, {"event_type": 1}], ["2 0@1"]),
+        *(own([(attribute, NOT_EQUAL, attribute)], [{"core": 1}, {"core": 2}], []) for attribute in (CORE, AMOUNT)),
+    ],
+    "Uploads of cores 1 and 2 in a group, and a draw of core 1: neither = nor != lets it in, nor one of core 2": [
+        *gathered(EQUAL, [1, 2], [1], []),
+        *gathered(NOT_EQUAL, [1, 2], [1], []),
+        *gathered(EQUAL, [1, 2], [2], []),
+        *gathered(NOT_EQUAL, [1, 2], [2], []),
+    ],
+    "A draw of core 3 there: != alone lets it in, also behind one of core 1 and one of core 2": [
+        *gathered(EQUAL, [1, 2], [3], []),
+        *gathered(NOT_EQUAL, [1, 2], [3], ["2 0@0 1@1 1@2 2@3"]),
+        *gathered(EQUAL, [1, 2], [1, 2, 3], []),
+        *gathered(NOT_EQUAL, [1, 2], [1, 2, 3], ["2 0@0 1@1 1@2 2@5"]),
+    ],
+    "Uploads of core 1 alone: a draw is let in by one of the two, of core 1 by = and of core 2 by !=": [
+        *gathered(EQUAL, [1, 1], [1], ["2 0@0 1@1 1@2 2@3"]),
+        *gathered(NOT_EQUAL, [1, 1], [1], []),
+        *gathered(EQUAL, [1, 1], [2], []),
+        *gathered(NOT_EQUAL, [1, 1], [2], ["2 0@0 1@1 1@2 2@3"]),
+    ],
+    "A loop: each new event of the group differs from the one bound; the one comes last, and differs from both": [
+        (ONE_AND_GROUP, of_cores((0, 2), (1, 2), (1, 3), (1, 2), (1, 4)), ["2 0@0 1@2 1@4"]),
+        (ONE_AND_GROUP, of_cores((1, 2), (1, 3), (0, 2), (0, 4)), ["2 1@0 1@1 0@3", "2 1@1 0@2"]),
+    ],
+    "Two groups that loop in turn: events of one group may share a core, and share none with the other group": [
+        (
+            GROUP_AND_GROUP,
+            of_cores((0, 1), (1, 1), (1, 2), (0, 2), (0, 1)),
+            ["2 0@0 1@2 0@4", "2 1@2 0@4"],
+        ),
+    ],
+    "Variables of different cores: in three sets; in one set, where a pair comes once for each order": [
+        (
+            all_different(1, 2, 3),
+            [event(10 + i, core) for i, core in enumerate((1, 1, 2, 1, 3))],
+            ["2 0@0 1@2 2@4", "2 0@1 1@2 2@4", "2 0@2 1@3 2@4"],
+        ),
+        (
+            all_different(1, 1),
+            [event(10 + i, core) for i, core in enumerate((1, 1, 2))],
+            ["2 0@0 1@2", "2 1@0 0@2", "2 0@1 1@2", "2 1@1 0@2"],
+        ),
+    ],
+}
+
+TABLE = ROWS + EXAMPLE_ROWS + LENT + REFUSED + LIVE + RULE + WAVE_ROWS + captioned(DIFFERENT, 24)
 
 # ---- Writing ----
 
@@ -629,13 +790,13 @@ def write(folder):
         assert result_of(pattern, records) == ((0, 0, 14, 3, 5), P1)
     for caption, pattern, records, stated in EXAMPLES:
         assert report_of(pattern, records) == stated, f"the rules state otherwise: {caption}"
-    for caption, cases in WAVES.items():
+    for caption, cases in [*WAVES.items(), *DIFFERENT.items()]:
         for pattern, records, stated in cases:
             assert report_of(pattern, records) == stated, f"worked out otherwise: {caption}"
     codes = {told[0].split(" ")[1] for told in lines if len(told) == 3}
     assert codes == {str(code) for code in range(12)}, "the forward pass gives each refusal 1 to 11, and success"
     table = "".join(row + "\n" for row in TABLE)
-    assert len(table) <= 65536, "the program reads so much"
+    assert len(table) <= TABLE_BYTES, "the program reads so much"
     for name, text in ("stdin", table), ("stdout", "".join(line + "\n" for told in lines for line in told)):
         with open(os.path.join(folder, name), "w", encoding="ascii") as file:
             file.write(text)

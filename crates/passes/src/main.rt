@@ -6,12 +6,23 @@
 // A row that begins with # is written as it is.
 mod cases;
 
+ghost use mathlib.Core.Path.{_≡_};
+ghost use lib.ListN.{length};
 use libc::STDIN_FILENO;
 
+// The room for a table.
+const TABLE_ROOM: usize = 131072;
+
 fn main() {
-    let mut table = io::large_buffer();
+    let mut table = table_room();
     let n = io::read_full(STDIN_FILENO, &mut table);
     rows(&table[..n]);
+}
+
+fn table_room() -> [u8; TABLE_ROOM]
+    ensures { λ r. ⌜ 131072 ≡ length r ⌝ }
+{
+    [0; TABLE_ROOM]
 }
 
 fn rows(table: &[u8]) {
