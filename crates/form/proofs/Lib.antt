@@ -17,4 +17,5 @@ pub mod Judged
 pub mod BadSets
 pub mod OneNames
 pub mod OneWritten
+pub mod NotEqual
 pub mod RoundTrip

@@ -210,7 +210,7 @@ attribute-same a b h k e = rows-apart attributeWords 6 refl a b (omega arith) (o
 
 operator-same : (a b : ℕ) → a ≤ lastOperator → b ≤ lastOperator → operatorWord a ≡ operatorWord b → a ≡ b
 unfolding operatorWord operatorWords every first firstFrom rowOf
-operator-same a b h k e = rows-apart operatorWords 5 refl a b (omega arith) (omega arith) e
+operator-same a b h k e = rows-apart operatorWords 6 refl a b (omega arith) (omega arith) e
 
 abbrev memberOf : ℕ → Bool → Member
 memberOf name group = record { name = name; group = group }

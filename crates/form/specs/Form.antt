@@ -92,7 +92,7 @@ attributeWords =
     ∷ (119 ∷ 97 ∷ 118 ∷ 101 ∷ [])
     ∷ []
 
--- Rule 11.2: = < <= > >=: a row for each operator, by its number
+-- Rule 11.2: = < <= > >= !=: a row for each operator, by its number
 unfoldable pub operatorWords : List (List ℕ)
 operatorWords =
     (61 ∷ [])
@@ -100,6 +100,7 @@ operatorWords =
     ∷ (60 ∷ 61 ∷ [])
     ∷ (62 ∷ [])
     ∷ (62 ∷ 61 ∷ [])
+    ∷ (33 ∷ 61 ∷ [])
     ∷ []
 
 -- Rule 11.2

@@ -184,7 +184,7 @@ raised-holds k first second x y e f = rw (e, f) (sym (meets-raised k first secon
 
 -- ## Operators
 
--- the table of the code: a row for each of = < <= > >=, in it less, equal, greater
+-- the table of the code: a row for each of = < <= > >= !=, in it less, equal, greater
 abbrev pub operators : List (List Bool)
 operators =
     (false ∷ true ∷ false ∷ [])
@@ -192,6 +192,7 @@ operators =
     ∷ (true ∷ true ∷ false ∷ [])
     ∷ (false ∷ false ∷ true ∷ [])
     ∷ (false ∷ true ∷ true ∷ [])
+    ∷ (true ∷ false ∷ true ∷ [])
     ∷ []
 
 abbrev entry : ℕ → ℕ → Bool

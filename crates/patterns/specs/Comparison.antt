@@ -64,7 +64,10 @@ meets operator order =
           | true ↦ eqb order less || eqb order equal
           | false ↦ elim (eqb operator 3) [
             | true ↦ eqb order greater
-            | false ↦ eqb order equal || eqb order greater
+            | false ↦ elim (eqb operator 4) [
+              | true ↦ eqb order equal || eqb order greater
+              | false ↦ eqb order less || eqb order greater
+            ]
           ]
         ]
       ]

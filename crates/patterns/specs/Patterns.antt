@@ -138,7 +138,7 @@ lastAttribute = 5
 
 -- Rule 2.3: the greatest operator
 abbrev pub lastOperator : ℕ
-lastOperator = 4
+lastOperator = 5
 
 -- Rule 2.3: a field that the form does not use is not 0, or one that it uses names nothing
 unfoldable pub formBroken : ℕ → Condition → Bool

@@ -29,7 +29,7 @@ const MOST_IN_SET: usize = 6;
 
 const LAST_ATTRIBUTE: u8 = 5;
 
-const LAST_OPERATOR: u8 = 4;
+const LAST_OPERATOR: u8 = 5;
 
 // Rule 2.4: a checked pattern: of each variable its set number and group flag, of each condition its fields, beside the
 // counts n and c and the duration. Places that are not used are 0.
@@ -403,13 +403,14 @@ pub fn check_pattern(pattern: &[u8]) -> Checked
 // What a comparison may give: less, equal or greater.
 pub const ORDERS: usize = 3;
 
-// Which orders meet an operator: a row for each of = < <= > >=, in it less, equal, greater (Rule 3.2).
+// Which orders meet an operator: a row for each of = < <= > >= !=, in it less, equal, greater (Rule 3.2).
 const OPERATORS: [[bool; ORDERS]; LAST_OPERATOR as usize + 1] = [
     [false, true, false],
     [true, false, false],
     [true, true, false],
     [false, false, true],
     [false, true, true],
+    [true, false, true],
 ];
 
 // Whole numbers are compared as naturals, each raised by 2^31.

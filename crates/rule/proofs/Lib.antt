@@ -35,3 +35,4 @@ pub mod Pretends
 pub mod Alike
 pub mod WithoutWaves
 pub mod Waves
+pub mod NotEqual

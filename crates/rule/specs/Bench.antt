@@ -51,6 +51,12 @@ onePattern = 0x11 ∷ 0x00 ∷ 0x00 ∷ 0x00 ∷ 0x00 ∷ 0x00 ∷ 0x00 ∷ 0x00
 abbrev pub twoPattern : List ℕ
 twoPattern = 0x12 ∷ 0x00 ∷ 0x00 ∷ 0x00 ∷ 0x00 ∷ 0x00 ∷ 0x00 ∷ 0x64 ∷ 0x10 ∷ 0x20 ∷ []
 
+-- a variable of any core but 1, duration 0
+abbrev pub otherPattern : List ℕ
+otherPattern =
+    0x11 ∷ 0x01 ∷ 0x00 ∷ 0x00 ∷ 0x00 ∷ 0x00 ∷ 0x00 ∷ 0x00 ∷ 0x10
+    ∷ 0x01 ∷ 0x40 ∷ 0x00 ∷ 0x00 ∷ 0x00 ∷ 0x00 ∷ 0x00 ∷ 0x01 ∷ []
+
 -- a number as n bytes, the most significant first
 abbrev pub inBytes : ℕ → ℕ → List ℕ
 inBytes zero x = []
@@ -76,6 +82,10 @@ abbrev pub benchBlock : List ℕ
 benchBlock =
     benchFront
     ++ eventBytes 80 2 33 ++ eventBytes 90 2 17 ++ eventBytes 100 2 3 ++ eventBytes 110 2 17 ++ eventBytes 120 2 33
+
+-- events of cores 0, 1 and 2
+abbrev pub coresBlock : List ℕ
+coresBlock = eventBytes 10 0 0 ++ eventBytes 20 1 0 ++ eventBytes 30 2 0
 
 -- ## The table
 
@@ -202,9 +212,17 @@ frontReport = reports benchPattern benchFront (lineFrom0 ∷ [])
 abbrev pub oneStep : Row
 oneStep = lists onePattern 56 (stepsListed 1) (0 ∷ [])
 
--- Rule 10.2: the rows, and three more that other theorems use
+-- of events of cores 0, 1 and 2, those of any core but 1
+abbrev pub otherNumbers : List ℕ
+otherNumbers = 4097 ∷ 0 ∷ 8193 ∷ 2 ∷ []
+
+abbrev pub otherCores : Row
+otherCores = succeeds otherPattern coresBlock fullLimit fullWork fullResult 4 2 1 otherNumbers
+
+-- Rule 10.2: the rows, and others that theorems use
 abbrev pub table : List Row
-table = P1 ∷ P2 ∷ P3 ∷ P4 ∷ P5 ∷ P6 ∷ P7 ∷ P8 ∷ P9 ∷ P10 ∷ benchReport ∷ front ∷ frontReport ∷ oneStep ∷ []
+table =
+    P1 ∷ P2 ∷ P3 ∷ P4 ∷ P5 ∷ P6 ∷ P7 ∷ P8 ∷ P9 ∷ P10 ∷ benchReport ∷ front ∷ frontReport ∷ oneStep ∷ otherCores ∷ []
 
 -- the slice of a listing: eight bytes a step, and zeros behind them
 abbrev pub listingOf : ℕ → List ℕ → List ℕ

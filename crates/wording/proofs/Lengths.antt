@@ -42,7 +42,8 @@ operator-length (suc zero) = omega arith
 operator-length (suc (suc zero)) = omega arith
 operator-length (suc (suc (suc zero))) = omega arith
 operator-length (suc (suc (suc (suc zero)))) = omega arith
-operator-length (suc (suc (suc (suc (suc a))))) = omega arith
+operator-length (suc (suc (suc (suc (suc zero))))) = omega arith
+operator-length (suc (suc (suc (suc (suc (suc a)))))) = omega arith
 
 side-length : (variable attribute : ℕ) → length (sideText variable attribute) ≤ 8
 unfolding sideText sideWord

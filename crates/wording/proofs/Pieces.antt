@@ -115,10 +115,7 @@ pub within-text :
 unfolding withinLine line spaced
 within-text duration = simp (append-assoc, append-nil)
 
--- ## The last of the attributes and of the operators
+-- ## The last of six attributes or operators
 
-pub last-operator : (a : ℕ) → a ≤ 4 → ¬ (a ≡ 0) → ¬ (a ≡ 1) → ¬ (a ≡ 2) → ¬ (a ≡ 3) → a ≡ 4
-last-operator a h n0 n1 n2 n3 = omega arith
-
-pub last-attribute : (a : ℕ) → a ≤ 5 → ¬ (a ≡ 0) → ¬ (a ≡ 1) → ¬ (a ≡ 2) → ¬ (a ≡ 3) → ¬ (a ≡ 4) → a ≡ 5
-last-attribute a h n0 n1 n2 n3 n4 = omega arith
+pub last-of-six : (a : ℕ) → a ≤ 5 → ¬ (a ≡ 0) → ¬ (a ≡ 1) → ¬ (a ≡ 2) → ¬ (a ≡ 3) → ¬ (a ≡ 4) → a ≡ 5
+last-of-six a h n0 n1 n2 n3 n4 = omega arith

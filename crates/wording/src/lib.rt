@@ -121,7 +121,10 @@ fn put_operator(operator: u8, text: &mut [u8], at: usize) -> usize
     if operator == 3 {
         return numbers::put_word(text, at, b" > ");
     }
-    numbers::put_word(text, at, b" >= ")
+    if operator == 4 {
+        return numbers::put_word(text, at, b" >= ");
+    }
+    numbers::put_word(text, at, b" != ")
 }
 
 // An attribute of a variable.

@@ -13,7 +13,7 @@ pub const LETTERS: usize = 26;
 // How many attributes and operators have a word: the number that stands for none of them.
 pub const ATTRIBUTES: u8 = 6;
 
-pub const OPERATORS: u8 = 5;
+pub const OPERATORS: u8 = 6;
 
 // The attribute beside which a constant has a sign.
 const AMOUNT: u8 = 4;
@@ -100,6 +100,9 @@ pub fn operator_of(word: &[u8]) -> u8
     }
     if is_same(word, b">=") {
         return 4;
+    }
+    if is_same(word, b"!=") {
+        return 5;
     }
     OPERATORS
 }

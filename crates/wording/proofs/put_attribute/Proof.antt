@@ -2,7 +2,7 @@
 use mathlib.Core.Path.{_≡_}
 use native.Mathlib.Omega.{arith}
 use Rattle.form.specs.Form.{attributeWords, attributeWord}
-use Rattle.wording.proofs.Pieces.{put-as, last-attribute}
+use Rattle.wording.proofs.Pieces.{put-as, last-of-six}
 use borrow.Author.Needs.{needs}
 use Rattle.wording.proofs.put_attribute.Statement.{statement}
 use Rattle.wording.proofs.put_attribute.Tie as tie
@@ -95,7 +95,7 @@ returns-6 : tie.Need-returns-6
 unfolding attributeWords attributeWord
 returns-6 c =
     let s = c .before .before .before .before .before .before .before .before .before .before .before in
-    let e : s .args .attribute ≡ 5 = last-attribute _ (s .pre .0) (c .before .before .before .before .before .before .before .before .before .if1 .left) (c .before .before .before .before .before .before .before .before .if2 .left) (c .before .before .before .before .before .before .before .if3 .left) (c .before .before .before .before .before .before .if4 .left) (c .before .before .before .before .before .if5 .left) in
+    let e : s .args .attribute ≡ 5 = last-of-six _ (s .pre .0) (c .before .before .before .before .before .before .before .before .before .if1 .left) (c .before .before .before .before .before .before .before .before .if2 .left) (c .before .before .before .before .before .before .before .if3 .left) (c .before .before .before .before .before .before .if4 .left) (c .before .before .before .before .before .if5 .left) in
     (put-as attributeWord _ 5 e (c .before .before .put-word6 .ensures), omega (arith, c .before .before .put-word6 .ensures .ends))
 
 pub put-attribute-spec : {M : Type 1} → statement M

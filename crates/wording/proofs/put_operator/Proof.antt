@@ -3,7 +3,7 @@ use mathlib.Core.Path.{_≡_}
 use native.Mathlib.Omega.{arith}
 use Rattle.form.specs.Form.{operatorWords, operatorWord}
 use Rattle.wording.specs.Parts.{operatorText}
-use Rattle.wording.proofs.Pieces.{put-as, last-operator}
+use Rattle.wording.proofs.Pieces.{put-as, last-of-six}
 use borrow.Author.Needs.{needs}
 use Rattle.wording.proofs.put_operator.Statement.{statement}
 use Rattle.wording.proofs.put_operator.Tie as tie
@@ -80,9 +80,24 @@ same-length-5 c = search needs
 returns-5 : tie.Need-returns-5
 unfolding operatorText operatorWords operatorWord
 returns-5 c =
-    let s = c .before .before .before .before .before .before .before .before .before .before in
-    let e : s .args .operator ≡ 4 = last-operator _ (s .pre .0) (c .before .before .before .before .before .before .before .before .if1 .left) (c .before .before .before .before .before .before .before .if2 .left) (c .before .before .before .before .before .before .if3 .left) (c .before .before .before .before .before .if4 .left) in
+    let e = c .before .before .before .before .before .if5 .taken in
     (put-as operatorText _ 4 e (c .before .before .put-word5 .ensures), omega (arith, c .before .before .put-word5 .ensures .ends))
+
+slice-aggregate-put-word-6 : tie.Need-slice-aggregate-put-word-6
+slice-aggregate-put-word-6 c = search needs
+
+put-word-requires-6 : tie.Need-put-word-requires-6
+put-word-requires-6 c κs = search needs
+
+same-length-6 : tie.Need-same-length-6
+same-length-6 c = search needs
+
+returns-6 : tie.Need-returns-6
+unfolding operatorText operatorWords operatorWord
+returns-6 c =
+    let s = c .before .before .before .before .before .before .before .before .before .before .before in
+    let e : s .args .operator ≡ 5 = last-of-six _ (s .pre .0) (c .before .before .before .before .before .before .before .before .before .if1 .left) (c .before .before .before .before .before .before .before .before .if2 .left) (c .before .before .before .before .before .before .before .if3 .left) (c .before .before .before .before .before .before .if4 .left) (c .before .before .before .before .before .if5 .left) in
+    (put-as operatorText _ 5 e (c .before .before .put-word6 .ensures), omega (arith, c .before .before .put-word6 .ensures .ends))
 
 pub put-operator-spec : {M : Type 1} → statement M
 put-operator-spec =
@@ -107,4 +122,8 @@ put-operator-spec =
     slice-aggregate-put-word-5
     put-word-requires-5
     same-length-5
-    returns-5)
+    returns-5
+    slice-aggregate-put-word-6
+    put-word-requires-6
+    same-length-6
+    returns-6)

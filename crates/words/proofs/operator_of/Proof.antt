@@ -57,10 +57,21 @@ returns-5 : tie.Need-returns-5
 unfolding operatorWords
 returns-5 c = row-found operatorWords _ 4 _ _ (omega arith) refl (c .before .is-same5 .ensures) (c .if5 .taken)
 
+slice-aggregate-is-same-6 : tie.Need-slice-aggregate-is-same-6
+slice-aggregate-is-same-6 c = search needs
+
+is-same-requires-6 : tie.Need-is-same-requires-6
+is-same-requires-6 c κs = search needs
+
 returns-6 : tie.Need-returns-6
 unfolding operatorWords
-returns-6 c =
-    let c4 = c .before .before .before in
+returns-6 c = row-found operatorWords _ 5 _ _ (omega arith) refl (c .before .is-same6 .ensures) (c .if6 .taken)
+
+returns-7 : tie.Need-returns-7
+unfolding operatorWords
+returns-7 c =
+    let c5 = c .before .before .before in
+    let c4 = c5 .before .before .before in
     let c3 = c4 .before .before .before in
     let c2 = c3 .before .before .before in
     let c1 = c2 .before .before .before in
@@ -68,8 +79,9 @@ returns-6 c =
     let p2 = passed-more operatorWords _ 1 _ _ p1 refl (c2 .before .is-same2 .ensures) (c2 .if2 .left) in
     let p3 = passed-more operatorWords _ 2 _ _ p2 refl (c3 .before .is-same3 .ensures) (c3 .if3 .left) in
     let p4 = passed-more operatorWords _ 3 _ _ p3 refl (c4 .before .is-same4 .ensures) (c4 .if4 .left) in
-    let p5 = passed-more operatorWords _ 4 _ _ p4 refl (c .before .is-same5 .ensures) (c .if5 .left) in
-    row-none operatorWords _ 5 p5 refl
+    let p5 = passed-more operatorWords _ 4 _ _ p4 refl (c5 .before .is-same5 .ensures) (c5 .if5 .left) in
+    let p6 = passed-more operatorWords _ 5 _ _ p5 refl (c .before .is-same6 .ensures) (c .if6 .left) in
+    row-none operatorWords _ 6 p6 refl
 
 pub operator-of-spec : {M : Type 1} → statement M
 operator-of-spec =
@@ -90,4 +102,7 @@ operator-of-spec =
     slice-aggregate-is-same-5
     is-same-requires-5
     returns-5
-    returns-6)
+    slice-aggregate-is-same-6
+    is-same-requires-6
+    returns-6
+    returns-7)
