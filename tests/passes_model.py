@@ -446,7 +446,11 @@ RULE = [
 BY_TYPE = (condition(0, 1, 0, 0), condition(1, 1, 0, 1))
 BIND_THEN_DRAW = (condition(0, CLASS, EQUAL, 0), condition(1, CLASS, EQUAL, 2))
 ONE_CORE = plain((1, 0), (1, 1), conditions=BY_TYPE + (condition(0, 0, 0, second=(1, 0)),))
-OTHER_CORE = plain((1, 1), (2, 0), conditions=BIND_THEN_DRAW + (condition(1, CORE, NOT_EQUAL, second=(0, CORE)),))
+OTHER_CORE, ITS_CORE = (
+    plain((1, 1), (2, 0), conditions=BIND_THEN_DRAW + (condition(1, CORE, operator, second=(0, CORE)),))
+    for operator in (NOT_EQUAL, EQUAL)
+)
+BINDS_AND_DRAWS = [event(10, 1), event(11, 2), event(12, 2, 33), event(13, 3, 33)]
 EXAMPLES = [
     (
         "4.2, a merged state: 0 loops until 1 is bound",
@@ -467,12 +471,8 @@ EXAMPLES = [
         [event(10, slot=3, amount=3), event(11, slot=4, amount=4), event(12, slot=4, amount=3)],
         ["2 0@0 0@1", "2 0@1"],
     ),
-    (
-        "5.3, not equal: an event of a core that is bound, and one of another core",
-        OTHER_CORE,
-        [event(10, 1), event(11, 2), event(12, 2, 33), event(13, 3, 33)],
-        ["2 0@0 0@1 1@3", "2 0@1 1@3"],
-    ),
+    ("5.3, not equal: a bound core, another one", OTHER_CORE, BINDS_AND_DRAWS, ["2 0@0 0@1 1@3", "2 0@1 1@3"]),
+    ("5.3, not equal: with = in its place", ITS_CORE, BINDS_AND_DRAWS, ["2 0@1 1@2"]),
     (
         "5.5, an event that must be bound",
         plain((1, 0), (1, 1), conditions=BY_TYPE),
