@@ -230,7 +230,7 @@ void next_pattern(unsigned family, struct wide *out) {
 
 void print_conditions(FILE *to, const struct workload *w) {
   static const char *const attributes[] = {"core", "type", "class", "slot", "amount", "wave"};
-  static const char *const operators[] = {"=", "<", "<=", ">", ">="};
+  static const char *const operators[] = {"=", "<", "<=", ">", ">=", "!="};
   for (const uint8_t *at = conditions_of(w); at < w->pattern + w->pattern_len; at += 8) {
     fprintf(to, ", %c.%s%s", 'a' + (at[0] >> 4), attributes[at[0] >> 1 & 7], operators[(at[0] & 1) << 2 | at[1] >> 6]);
     if (is_join(at))

@@ -6,7 +6,7 @@
 
 enum { VARIABLES = 12, CONDITIONS = 32, SETS = 8, SET_VARIABLES = 6, RECORDS = 4096, BINDINGS = 32 };
 enum { LIMIT = 256, WORK_BYTES = 160, RESULT_BYTES = 65536 };
-enum { ATTRIBUTES = 6, AMOUNT = 4 };
+enum { ATTRIBUTES = 6, AMOUNT = 4, OPERATORS = 6 };
 enum { MARK_WINDOW = 1, MARK_END = 2, MARK_GAP = 3 };
 
 struct record {
@@ -61,7 +61,8 @@ static uint64_t read40(const uint8_t *at) { return (uint64_t)at[0] << 32 | read3
 
 /* ---- patterns ---- */
 
-static const uint8_t orders_of[5] = {2, 1, 3, 4, 6};
+/* Of =, <, <=, >, >= and !=: see struct own. */
+static const uint8_t orders_of[OPERATORS] = {2, 1, 3, 4, 6, 5};
 
 static uint8_t turned(uint8_t orders) { return (uint8_t)((orders & 1) << 2 | (orders & 2) | orders >> 2); }
 
@@ -82,7 +83,7 @@ static void add_condition(struct pattern *p, const uint8_t *at) {
 
 static bool condition_in_order(unsigned n, const uint8_t *at) {
   unsigned form = at[1] >> 5 & 1, second = at[1] >> 1 & 15, second_attribute = (at[1] & 1u) << 2 | at[2] >> 6;
-  if (at[0] >> 4 >= n || (at[0] >> 1 & 7) >= ATTRIBUTES || ((at[0] & 1u) << 2 | at[1] >> 6) >= 5) return false;
+  if (at[0] >> 4 >= n || (at[0] >> 1 & 7) >= ATTRIBUTES || ((at[0] & 1u) << 2 | at[1] >> 6) >= OPERATORS) return false;
   if ((at[2] & 0x3f) != 0 || at[3] != 0) return false;
   if (form == 0) return second == 0 && second_attribute == 0;
   return second < n && second_attribute < ATTRIBUTES && read32(at + 4) == 0;

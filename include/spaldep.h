@@ -59,7 +59,7 @@ enum {
   SPALDEP_REFUSED_VARIABLE = 3,        /* a variable's byte breaks its rules, or a text has more than 8 sets or 6 names
                                           in a set; place: the first such variable */
   SPALDEP_REFUSED_CONDITION = 4,       /* on either side a variable not under n or an attribute over 5, an operator
-                                          over 4, or zero bits set; place: the first such condition */
+                                          over 5, or zero bits set; place: the first such condition */
   SPALDEP_REFUSED_BLOCK_LENGTH = 5,    /* block not whole records, or over 4,096 of them; place 0 */
   SPALDEP_REFUSED_RECORD = 6,          /* neither event nor gap, or a gap with a core, type, amount or wave, or that
                                           tells of no loss; place: the record */
@@ -94,13 +94,15 @@ enum {
   SPALDEP_ATTRIBUTE_WAVE = 5    /* the wave slot, 0 to 255 */
 };
 
-/* How the left side of a condition must stand to the right one, as whole numbers. */
+/* How the left side of a condition must stand to the right one, as whole numbers. Of a group variable every event that
+   is bound to it is asked, so where NOT_EQUAL rejects an event, EQUAL may reject it too. */
 enum {
   SPALDEP_OPERATOR_EQUAL = 0,
   SPALDEP_OPERATOR_LESS = 1,
   SPALDEP_OPERATOR_LESS_EQUAL = 2,
   SPALDEP_OPERATOR_GREATER = 3,
-  SPALDEP_OPERATOR_GREATER_EQUAL = 4
+  SPALDEP_OPERATOR_GREATER_EQUAL = 4,
+  SPALDEP_OPERATOR_NOT_EQUAL = 5
 };
 
 /* What stands on the right side of a condition. */
@@ -141,7 +143,7 @@ enum {
  *
  *   Conditions     4       variable
  *   8c bytes       3       attribute: core 0, type 1, class 2, slot 3, amount 4, wave 5; SPALDEP_ATTRIBUTE_..
- *                  3       operator: = 0, < 1, <= 2, > 3, >= 4; SPALDEP_OPERATOR_..
+ *                  3       operator: = 0, < 1, <= 2, > 3, >= 4, != 5; SPALDEP_OPERATOR_..
  *                  1       form: the right side is the constant (0) or the second variable's attribute (1);
  *                          SPALDEP_FORM_..
  *                  4       second variable; zero in form 0
@@ -195,8 +197,8 @@ uint64_t spaldep_list_automaton(const uint8_t *pattern, size_t pattern_len, uint
  *   set a b+               one line or more, one a set: its variables, a plus behind a group variable. A name is a
  *                          small letter and stands once in all these lines; variables are numbered in that order.
  *   when a.core = b.core   none or more, one a condition: an attribute (core, type, class, slot, amount, wave), an
- *   when a.amount >= -4    operator (=, <, <=, >, >=), and another attribute or a constant. Beside amount a constant is
- *                          -2147483648 to 2147483647, beside any other attribute 0 to 4294967295.
+ *   when a.amount >= -4    operator (=, <, <=, >, >=, !=), and another attribute or a constant. Beside amount a
+ *                          constant is -2147483648 to 2147483647, beside any other attribute 0 to 4294967295.
  *   within 100             the last line, always there: the duration in cycles
  *
  * One space stands between two words and none elsewhere, a line feed (byte 10) behind every line, the last one too,

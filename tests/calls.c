@@ -9,6 +9,7 @@
 #include <unistd.h>
 
 #include "lent.h"
+#include "operators.h"
 #include "reference.h"
 #include "spaldep.h"
 #include "tally.h"
@@ -213,6 +214,7 @@ void compare_merged(size_t result_len) {
   if (pass != merged) fail_answers(pass, "where the merged readings give", merged);
   if (memcmp(result, reference_result, result_len) != 0) fail("reports what the merged readings do not");
   tally.met[MET_MERGED]++;
+  tally.met[MET_MERGED_NOT_EQUAL] += joins_not_equal(&now);
 }
 
 /* Demand 3: what one pass's acceptance says of the other. */
@@ -233,6 +235,7 @@ void compare_passes(uint32_t limit, size_t work_len, size_t result_len) {
     fail("differ: start-by-start accepts, forward gives neither the same nor 10");
   tally.met[MET_LIVE_ALONE] += spaldep_code(starts) == 0 && spaldep_code(forward) == SPALDEP_REFUSED_LIVE;
   tally.met[MET_WAVE_REPORT] += spaldep_readings(starts) > 0 && asks_wave(&now) && has_wave(&now);
+  tally.met[MET_NOT_EQUAL_REPORT] += spaldep_readings(starts) > 0 && asks_not_equal(&now);
 }
 
 /* The input as before, with waves of 0 in the block. */

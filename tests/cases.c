@@ -59,8 +59,10 @@ static void put_event(struct random *r, const struct knobs *k, const unsigned *c
   }
   set_field(at, 2, 6, k->cores == 64 ? below(r, 64) : below(r, k->cores));
   set_field(at, 8, 8, type_of_class(r, class));
-  set_field(at, 56, 32, number32(r, k->edge_percent));
-  set_field(at, 88, 32, number32(r, k->edge_percent));
+  uint32_t slot = number32(r, k->edge_percent);
+  bool same_bits = k->edge_percent > 0 && chance(r, 20); /* which can be different numbers */
+  set_field(at, 56, 32, slot);
+  set_field(at, 88, 32, same_bits ? slot : number32(r, k->edge_percent));
   set_field(at, 120, 8, any_wave(r, k->waves, k->edge_percent));
 }
 
@@ -183,7 +185,8 @@ static bool holds_often(struct random *r, const struct knobs *k, const struct te
       case SPALDEP_OPERATOR_LESS: met += left < right; break;
       case SPALDEP_OPERATOR_LESS_EQUAL: met += left <= right; break;
       case SPALDEP_OPERATOR_GREATER: met += left > right; break;
-      default: met += left >= right; break;
+      case SPALDEP_OPERATOR_GREATER_EQUAL: met += left >= right; break;
+      case SPALDEP_OPERATOR_NOT_EQUAL: met += left != right; break;
     }
   }
   return 5 * met >= k->met_percent;
@@ -198,8 +201,14 @@ static unsigned any_against(struct random *r, unsigned attribute) {
                  SPALDEP_ATTRIBUTE_WAVE);
 }
 
+/* Of slot and amount, which can be the same 32 bits and different numbers. */
+static bool slot_and_amount(unsigned attribute, unsigned against) {
+  return (attribute == SPALDEP_ATTRIBUTE_SLOT && against == SPALDEP_ATTRIBUTE_AMOUNT) ||
+         (attribute == SPALDEP_ATTRIBUTE_AMOUNT && against == SPALDEP_ATTRIBUTE_SLOT);
+}
+
 static void put_any_condition(struct random *r, const struct knobs *k, uint8_t *at) {
-  unsigned variable = below(r, k->variables), operator= below(r, SPALDEP_OPERATOR_GREATER_EQUAL + 1);
+  unsigned variable = below(r, k->variables), operator= below(r, SPALDEP_OPERATOR_NOT_EQUAL + 1);
   unsigned attribute = chance(r, k->wave_percent) ? SPALDEP_ATTRIBUTE_WAVE : below(r, SPALDEP_ATTRIBUTE_WAVE + 1);
   if (attribute >= SPALDEP_ATTRIBUTE_SLOT && chance(r, 50))
     operator= PICK(r, SPALDEP_OPERATOR_LESS_EQUAL, SPALDEP_OPERATOR_GREATER_EQUAL);
@@ -208,6 +217,7 @@ static void put_any_condition(struct random *r, const struct knobs *k, uint8_t *
     return;
   }
   unsigned second = chance(r, 15) ? variable : below(r, k->variables), against = any_against(r, attribute);
+  if (slot_and_amount(attribute, against) && chance(r, 40)) operator= SPALDEP_OPERATOR_NOT_EQUAL;
   if (chance(r, 50))
     put_condition(at, variable, attribute, operator, SPALDEP_FORM_ATTRIBUTE, second, against, 0);
   else

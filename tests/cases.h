@@ -21,7 +21,7 @@ struct test_case {
   const char *shape;
   bool large;
   bool wide;            /* merged then has the readings */
-  bool too_many_groups; /* cut, because its merged readings are in too many groups */
+  bool too_many_groups; /* cut, because its merged readings are in too many groups, or their values too many */
   bool trial_too_long;  /* cut, because of wide_trial_ends */
   struct merged merged;
   size_t pattern_len, block_len;

@@ -18,6 +18,7 @@
 
 #include "calls.h"
 #include "cases.h"
+#include "operators.h"
 #include "reference.h"
 #include "rows.h"
 #include "rules.h"
@@ -41,7 +42,8 @@ SAME(SPALDEP_OPERATOR_LESS, LESS);
 SAME(SPALDEP_OPERATOR_LESS_EQUAL, LESS_EQUAL);
 SAME(SPALDEP_OPERATOR_GREATER, GREATER);
 SAME(SPALDEP_OPERATOR_GREATER_EQUAL, GREATER_EQUAL);
-SAME(SPALDEP_OPERATOR_GREATER_EQUAL + 1, OPERATORS);
+SAME(SPALDEP_OPERATOR_NOT_EQUAL, NOT_EQUAL);
+SAME(SPALDEP_OPERATOR_NOT_EQUAL + 1, OPERATORS);
 SAME(SPALDEP_FORM_CONSTANT, WITH_CONSTANT);
 SAME(SPALDEP_FORM_ATTRIBUTE, WITH_ATTRIBUTE);
 
@@ -128,6 +130,7 @@ static void count_input(uint64_t pattern_answer, uint64_t block_answer) {
     tally.met[MET_NO_RECORDS] += spaldep_used(block_answer) == 0;
   }
   count_waves(&now, pattern_answer, block_answer);
+  count_operators(&now, pattern_answer, block_answer);
 }
 
 /* See tally.h. */
@@ -146,6 +149,7 @@ static void count_wide(void) {
   tally.met[MET_WIDE_NEVER_FULL] += report && m->never_full > WIDE_BRANCHES;
   tally.met[MET_WIDE_JOINS] += m->joins;
   tally.met[MET_WIDE_WAVE] += asks_wave(&now);
+  tally.met[MET_WIDE_NOT_EQUAL] += joins_not_equal(&now);
 }
 
 /* The numbers that a pass would write and the most readings live, found with every slice as long as it may be: the
@@ -279,6 +283,8 @@ static int run_all(uint64_t seed, uint64_t count) {
   memset(tally.calls, 0, sizeof tally.calls); /* what is to be met, the random cases must meet */
   memset(tally.codes, 0, sizeof tally.codes);
   memset(tally.met, 0, sizeof tally.met);
+  memset(tally.not_equal, 0, sizeof tally.not_equal);
+  memset(tally.otherwise, 0, sizeof tally.otherwise);
   printf("seed %" PRIu64 ", %" PRIu64 " cases\n", seed, count);
   fflush(stdout);
   for (uint64_t i = 0; i < count; i++) run_case(random_next(&r));

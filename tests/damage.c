@@ -55,23 +55,27 @@ static void put_second(uint8_t *at, unsigned second_variable, unsigned second_at
                 second_attribute, 0);
 }
 
-/* An attribute that becomes wave is no damage: what the pattern then asks follows from the rules. */
+/* An attribute that becomes wave, or an operator that becomes !=, is no damage: what the pattern then asks follows from
+   the rules. */
 static void damage_condition(struct random *r, struct test_case *c) {
   unsigned n = c->pattern[0] & 15, conditions = c->pattern[1];
   if (conditions == 0 || 8 + n + 8 * conditions > c->pattern_len) return;
   uint8_t *at = c->pattern + 8 + n + 8 * below(r, conditions);
-  switch (below(r, 12)) {
+  switch (below(r, 15)) {
     case 0: set_field(at, 0, 4, chance(r, 50) ? n : between(r, n, 15)); break;
     case 1:
     case 2:
     case 3: set_field(at, 4, 3, between(r, SPALDEP_ATTRIBUTE_WAVE, 7)); break;
-    case 4: set_field(at, 7, 3, between(r, SPALDEP_OPERATOR_GREATER_EQUAL + 1, 7)); break;
-    case 5: set_field(at, 10, 1, at[1] >> 5 & 1 ? SPALDEP_FORM_CONSTANT : SPALDEP_FORM_ATTRIBUTE); break;
-    case 6: put_second(at, chance(r, 50) ? n : between(r, n, 15), SPALDEP_ATTRIBUTE_CORE); break;
-    case 7:
-    case 8:
-    case 9: put_second(at, 0, between(r, SPALDEP_ATTRIBUTE_WAVE, 7)); break;
-    case 10: set_field(at, 18 + below(r, 14), 1, 1); break;
+    case 4:
+    case 5:
+    case 6:
+    case 7: set_field(at, 7, 3, PICK(r, SPALDEP_OPERATOR_NOT_EQUAL, 6, 6, 7, 7)); break;
+    case 8: set_field(at, 10, 1, at[1] >> 5 & 1 ? SPALDEP_FORM_CONSTANT : SPALDEP_FORM_ATTRIBUTE); break;
+    case 9: put_second(at, chance(r, 50) ? n : between(r, n, 15), SPALDEP_ATTRIBUTE_CORE); break;
+    case 10:
+    case 11:
+    case 12: put_second(at, 0, between(r, SPALDEP_ATTRIBUTE_WAVE, 7)); break;
+    case 13: set_field(at, 18 + below(r, 14), 1, 1); break;
     default: set_field(at, 32 + below(r, 32), 1, 1); break;
   }
 }

@@ -1,25 +1,33 @@
 /*
  * Groups of readings that go on alike, for the reference's second way through the start-by-start pass (merged.h).
  * What an event does to a reading depends on its state and, for each condition between two variables, on the events
- * that the other variable is bound to (Rule 5.3). An operator holds of all of these where it holds of the least and of
- * the greatest of their values, so a group has its state and those values, and no reading.
+ * that the other variable is bound to (Rule 5.3). An operator other than != holds of all of these where it holds of the
+ * least and of the greatest of their values; != has to be asked of every value. So a group has its state and, of each
+ * side that is asked, the least value, the greatest, or which values there are; and no reading.
  */
 #ifndef GROUPS_H
 #define GROUPS_H
 
 #include "rules.h"
 
-enum { MOST_SIDES = VARIABLES * ATTRIBUTES };
+enum { MOST_SIDES = VARIABLES * ATTRIBUTES, MOST_VALUES = 64 };
 
 /* One side of a join, which is a condition between two variables. */
 struct side {
   unsigned variable, attribute;
   unsigned least_for, greatest_for; /* the variables whose new event is held against its least, or its greatest */
+  unsigned others_for;              /* those whose new event is held against every value of it, by != */
 };
 
 struct join {
   const struct condition *condition;
   size_t first, second; /* its sides */
+};
+
+/* The values that an attribute has in the block, each once. */
+struct values {
+  size_t count;
+  int64_t value[MOST_VALUES];
 };
 
 /* A pattern and a block, with what is settled once for both. */
@@ -31,15 +39,19 @@ struct view {
   size_t sides, joins;
   struct side side[MOST_SIDES];
   struct join join[CONDITIONS];
+  struct values values[ATTRIBUTES]; /* of the attributes whose every value is asked */
 };
 
-/* Values that no event to come is held against are the same in all groups of a state. */
+/* What no event to come is held against is the same in all groups of a state. */
 struct group {
   unsigned state;
   int64_t least[MOST_SIDES], greatest[MOST_SIDES];
+  uint64_t bound[MOST_SIDES]; /* bit i: value i of the side's attribute is bound; 0 where != is not asked of it */
 };
 
-void view_of(struct view *w, const struct pattern *p, const struct block *b);
+/* False where a join by != is on an attribute with more than MOST_VALUES values in the block: a group cannot tell all
+   of them. A block of so many records at most never has more. */
+bool view_of(struct view *w, const struct pattern *p, const struct block *b);
 
 /* The variables that leave a state, a bit for each. */
 unsigned leaves(struct view *w, unsigned state);

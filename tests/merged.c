@@ -56,7 +56,7 @@ static size_t chain_of(const struct walk *w, const struct group *g) {
   uint64_t hash = g->state * (uint64_t)0x9e3779b97f4a7c15;
   for (size_t i = 0; i < w->view.sides; i++) {
     hash = (hash ^ (uint64_t)g->least[i]) * 0xbf58476d1ce4e5b9u;
-    hash = (hash ^ (uint64_t)g->greatest[i] ^ hash >> 29) * 0x94d049bb133111ebu;
+    hash = (hash ^ (uint64_t)g->greatest[i] ^ g->bound[i] << 24 ^ hash >> 29) * 0x94d049bb133111ebu;
   }
   return (size_t)(hash >> 32) % CHAINS;
 }
@@ -287,7 +287,7 @@ void merge_readings(const uint8_t *pattern, size_t pattern_len, const uint8_t *b
   out->answered = true;
   out->refused = read_all(pattern, pattern_len, block, block_len, &p, &b);
   if (out->refused != 0) return;
-  view_of(&walk.view, &p, &b);
+  out->answered = view_of(&walk.view, &p, &b);
   walk.tests = 0;
   out->joins = walk.view.joins > 0;
   for (size_t first = 0; first < b.count && out->answered; first++)

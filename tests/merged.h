@@ -17,7 +17,8 @@
 enum { MERGED_REPORT_BYTES = 65536 }; /* of the longest report that a call can give */
 
 struct merged {
-  bool answered;    /* false: more groups than the walk has room for, or more steps than it may take */
+  bool answered;    /* false: more groups than the walk has room for, more steps than it may take, or more values than
+                       a group can tell */
   uint64_t refused; /* the refusal of the pattern or of the block, or 0 */
   bool joins;       /* there is a condition between two variables */
   bool too_long;

@@ -129,8 +129,95 @@ static const struct asked second_6[] = {
     HOLDS_OF(0, WAVE, EQUAL, 0, WAVE),
     {0, SPALDEP_ATTRIBUTE_WAVE, SPALDEP_OPERATOR_EQUAL, SPALDEP_FORM_ATTRIBUTE, 0, SPALDEP_ATTRIBUTE_WAVE + 1, 0}};
 
-#define REPORTED(name, pattern, asked, entries, peak, result) \
-  { name, pattern, entries, COUNT(entries), 256, 32768, 0, 0, 1, peak, result, COUNT(result), asked, COUNT(asked) }
+/* ---- not equal ---- */
+
+#define SLOT_AT(time, slot) \
+  { 0, 0, 0, slot, time, 0, 0 }
+#define AMOUNT_AT(time, amount) \
+  { 0, 0, 0, 0, time, amount, 0 }
+#define UPLOAD_AMOUNT(time, amount) \
+  { 0, 0, 16, 0, time, amount, 0 }
+#define BIND(time, core) \
+  { 0, core, 0, 0, time, 0, 0 }
+#define UPLOAD(time, core) \
+  { 0, core, 16, 0, time, 0, 0 }
+#define DRAW(time, core) \
+  { 0, core, 32, 0, time, 0, 0 }
+
+/* Patterns of one variable; of a bind and an upload behind it; of a bind, uploads and a draw, one behind the other. */
+#define ANY_EVENT "1101000000000064 10"
+#define BIND_UPLOAD "1203000000000064 10 20"
+#define BIND_UPLOADS_DRAW "1304000000000064 10 28 30"
+#define BIND_AND_UPLOAD HOLDS(0, CLASS, EQUAL, 0), HOLDS(1, CLASS, EQUAL, 1)
+
+/* One below, equal, one above; and where there is nothing below or above, the other end. */
+static const struct asked slot_not_7[] = {HOLDS(0, SLOT, NOT_EQUAL, 7)};
+static const struct entry slots_6_7_8[] = {SLOT_AT(1, 6), SLOT_AT(2, 7), SLOT_AT(3, 8)};
+static const struct asked slot_not_greatest[] = {HOLDS(0, SLOT, NOT_EQUAL, 0xffffffff)};
+static const struct entry slots_at_end[] = {SLOT_AT(1, 0xfffffffe), SLOT_AT(2, 0xffffffff), SLOT_AT(3, 0)};
+static const uint16_t events_0_and_2_result[] = {0x2001, 0x0000, 0x2001, 0x0002};
+static const struct asked amount_not_least[] = {HOLDS(0, AMOUNT, NOT_EQUAL, 0x80000000)};
+static const struct entry amounts_at_end[] = {AMOUNT_AT(1, INT32_MIN), AMOUNT_AT(2, INT32_MIN + 1),
+                                              AMOUNT_AT(3, INT32_MAX)};
+static const uint16_t events_1_and_2_result[] = {0x2001, 0x0001, 0x2001, 0x0002};
+static const struct asked wave_not_256[] = {HOLDS(0, WAVE, NOT_EQUAL, 256), HOLDS(0, WAVE, NOT_EQUAL, 0xffffffff),
+                                            HOLDS(0, WAVE, NOT_EQUAL, 254)};
+
+/* A bind and the first upload of another core, whichever of the two the condition names first. */
+static const struct asked other_core[] = {BIND_AND_UPLOAD, HOLDS_OF(1, CORE, NOT_EQUAL, 0, CORE)};
+static const struct asked other_core_turned[] = {BIND_AND_UPLOAD, HOLDS_OF(0, CORE, NOT_EQUAL, 1, CORE)};
+static const struct entry core_above[] = {BIND(1, 5), UPLOAD(2, 5), UPLOAD(3, 6)};
+static const struct entry core_below[] = {BIND(1, 5), UPLOAD(2, 5), UPLOAD(3, 4)};
+static const uint16_t first_and_third_result[] = {0x2002, 0x0000, 0x1002};
+
+/* Slot and amount of the same 32 bits: from 2^31 on they are different numbers. */
+static const struct asked slot_not_amount[] = {BIND_AND_UPLOAD, HOLDS_OF(0, SLOT, NOT_EQUAL, 1, AMOUNT)};
+static const struct asked amount_not_slot[] = {BIND_AND_UPLOAD, HOLDS_OF(1, AMOUNT, NOT_EQUAL, 0, SLOT)};
+static const struct entry bits_of_minus_1[] = {SLOT_AT(1, 0xffffffff), UPLOAD_AMOUNT(2, -1)};
+static const struct entry bits_of_least[] = {SLOT_AT(1, 0x80000000), UPLOAD_AMOUNT(2, INT32_MIN)};
+static const struct entry bits_of_greatest[] = {SLOT_AT(1, 0x7fffffff), UPLOAD_AMOUNT(2, INT32_MAX),
+                                                UPLOAD_AMOUNT(3, INT32_MAX - 1)};
+static const uint16_t first_and_second_result[] = {0x2002, 0x0000, 0x1001};
+
+/* One variable on both sides: each event's own slot and amount, and none of another event. */
+static const struct asked own_not_equal[] = {HOLDS_OF(0, SLOT, NOT_EQUAL, 0, AMOUNT)};
+static const struct entry own_edges[] = {{0, 0, 0, 0x7fffffff, 1, INT32_MAX, 0},
+                                         {0, 0, 0, 0xffffffff, 2, -1, 0},
+                                         {0, 0, 0, 0x80000000, 3, INT32_MIN, 0},
+                                         {0, 0, 0, 0, 4, 0, 0}};
+static const struct entry crosswise[] = {{0, 0, 0, 1, 1, 2, 0}, {0, 0, 0, 2, 2, 1, 0}};
+static const uint16_t crosswise_result[] = {0x2002, 0x0000, 0x0001, 0x2001, 0x0001};
+
+/* Uploads of cores 1 and 2, and a draw of core 2: it is not of the core of both, nor of another core than both. A draw
+   of core 3 is of another. */
+static const struct asked draw_of_other_core[] = {BIND_AND_UPLOAD, HOLDS(2, CLASS, EQUAL, 2),
+                                                  HOLDS_OF(2, CORE, NOT_EQUAL, 1, CORE)};
+static const struct asked draw_of_same_core[] = {BIND_AND_UPLOAD, HOLDS(2, CLASS, EQUAL, 2),
+                                                 HOLDS_OF(2, CORE, EQUAL, 1, CORE)};
+static const struct entry draw_of_2[] = {BIND(1, 0), UPLOAD(2, 1), UPLOAD(3, 2), DRAW(4, 2)};
+static const struct entry draws_of_2_and_3[] = {BIND(1, 0), UPLOAD(2, 1), UPLOAD(3, 2), DRAW(4, 2), DRAW(5, 3)};
+static const uint16_t draw_of_3_result[] = {0x2004, 0x0000, 0x1001, 0x1002, 0x2004};
+
+/* Uploads of cores 2 and 3 before the binds of cores 2 and 4: the first bind is of the first upload's core. */
+static const struct entry uploads_then_binds[] = {UPLOAD(1, 2), UPLOAD(2, 3), BIND(3, 2), BIND(4, 4)};
+static const uint16_t uploads_then_binds_result[] = {0x2003, 0x1000, 0x1001, 0x0003, 0x2002, 0x1001, 0x0002};
+
+/* The operators behind !=, with either form. */
+static const struct asked operator_6[] = {
+    HOLDS(0, CORE, NOT_EQUAL, 0),
+    {0, SPALDEP_ATTRIBUTE_CORE, SPALDEP_OPERATOR_NOT_EQUAL + 1, SPALDEP_FORM_CONSTANT, 0, 0, 0}};
+static const struct asked operator_7[] = {
+    HOLDS(0, CORE, NOT_EQUAL, 0),
+    {0, SPALDEP_ATTRIBUTE_CORE, SPALDEP_OPERATOR_NOT_EQUAL + 2, SPALDEP_FORM_ATTRIBUTE, 0, SPALDEP_ATTRIBUTE_WAVE, 0}};
+
+#define REPORTS(name, pattern, asked, entries, readings, peak, result)                                      \
+  {                                                                                                         \
+    name, pattern, entries, COUNT(entries), 256, 32768, 0, 0, readings, peak, result, COUNT(result), asked, \
+        COUNT(asked)                                                                                        \
+  }
+#define REPORTED(name, pattern, asked, entries, peak, result) REPORTS(name, pattern, asked, entries, 1, peak, result)
+#define NOTHING(name, pattern, asked, entries, peak) \
+  { name, pattern, entries, COUNT(entries), 256, 32768, 0, 0, 0, peak, NULL, 0, asked, COUNT(asked) }
 #define REFUSED(name, pattern, asked, entries, code, place) \
   { name, pattern, entries, COUNT(entries), 256, 32768, code, place, 0, 0, NULL, 0, asked, COUNT(asked) }
 
@@ -159,6 +246,35 @@ static const struct row rows[] = {
     REPORTED("a loop by wave", "1203000000000064 10 18", same_wave, loop, 4, loop_result),
     REFUSED("attribute 6, first side", "1102000000000064 10", first_6, wave_255, 4, 1),
     REFUSED("attribute 6, second side", "1102000000000064 10", second_6, wave_255, 4, 1),
+    REPORTS("slot not 7", ANY_EVENT, slot_not_7, slots_6_7_8, 2, 2, events_0_and_2_result),
+    REPORTS("slot not 4294967295", ANY_EVENT, slot_not_greatest, slots_at_end, 2, 2, events_0_and_2_result),
+    REPORTS("amount not -2147483648", ANY_EVENT, amount_not_least, amounts_at_end, 2, 2, events_1_and_2_result),
+    REPORTED("wave not 256", "1103000000000064 10", wave_not_256, wave_255, 1, one_result),
+    REPORTED("a core above", BIND_UPLOAD, other_core, core_above, 1, first_and_third_result),
+    REPORTED("a core below", BIND_UPLOAD, other_core, core_below, 1, first_and_third_result),
+    REPORTED("a core above, turned", BIND_UPLOAD, other_core_turned, core_above, 1, first_and_third_result),
+    REPORTED("a core below, turned", BIND_UPLOAD, other_core_turned, core_below, 1, first_and_third_result),
+    REPORTED("slot 4294967295, amount -1", BIND_UPLOAD, slot_not_amount, bits_of_minus_1, 1, first_and_second_result),
+    REPORTED("amount -1, slot 4294967295", BIND_UPLOAD, amount_not_slot, bits_of_minus_1, 1, first_and_second_result),
+    REPORTED("slot 2147483648, amount -2147483648", BIND_UPLOAD, slot_not_amount, bits_of_least, 1,
+             first_and_second_result),
+    REPORTED("amount -2147483648, slot 2147483648", BIND_UPLOAD, amount_not_slot, bits_of_least, 1,
+             first_and_second_result),
+    REPORTED("slot 2147483647, amount 2147483647", BIND_UPLOAD, slot_not_amount, bits_of_greatest, 1,
+             first_and_third_result),
+    REPORTED("amount 2147483647, slot 2147483647", BIND_UPLOAD, amount_not_slot, bits_of_greatest, 1,
+             first_and_third_result),
+    REPORTS("slot and amount of one event", ANY_EVENT, own_not_equal, own_edges, 2, 2, events_1_and_2_result),
+    REPORTS("slot and amount crosswise", "1101000000000064 18", own_not_equal, crosswise, 2, 2, crosswise_result),
+    NOTHING("another core than both", BIND_UPLOADS_DRAW, draw_of_other_core, draw_of_2, 1),
+    NOTHING("the core of both", BIND_UPLOADS_DRAW, draw_of_same_core, draw_of_2, 1),
+    REPORTED("another core than both, later", BIND_UPLOADS_DRAW, draw_of_other_core, draws_of_2_and_3, 1,
+             draw_of_3_result),
+    NOTHING("the core of both, later", BIND_UPLOADS_DRAW, draw_of_same_core, draws_of_2_and_3, 1),
+    REPORTS("another core than all before", "1203000000000064 10 18", other_core, uploads_then_binds, 2, 4,
+            uploads_then_binds_result),
+    REFUSED("operator 6", "1102000000000064 10", operator_6, wave_255, 4, 1),
+    REFUSED("operator 7", "1102000000000064 10", operator_7, wave_255, 4, 1),
 };
 
 static size_t from_hex(const char *text, uint8_t *bytes) {

@@ -1,4 +1,5 @@
-/* The rows of Rule 10.2, and more that the rules settle, most of it on waves, run on the library and the reference. */
+/* The rows of Rule 10.2, and more that the rules settle, most of it on waves and on !=, run on the library and the
+   reference. */
 #ifndef ROWS_H
 #define ROWS_H
 

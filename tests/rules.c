@@ -161,7 +161,9 @@ bool compares(int64_t left, unsigned operator, int64_t right) {
     case LESS: return left < right;
     case LESS_EQUAL: return left <= right;
     case GREATER: return left > right;
-    default: return left >= right;
+    case GREATER_EQUAL: return left >= right;
+    case NOT_EQUAL: return left != right;
+    default: abort(); /* no pattern that is read has another */
   }
 }
 

@@ -4,6 +4,9 @@
 #include <inttypes.h>
 #include <stdio.h>
 
+#include "demands.h"
+#include "texts.h"
+
 /* Codes 0 to 12. Refusal 13 does not arise: a binding takes a record above all that are bound. */
 enum { REFUSALS = 13 };
 
@@ -47,9 +50,18 @@ static const char *const met_names[METS] = {
     "forward passes that answer or report something else with waves of 0",
     "passes without a condition on wave, held against the same block with waves of 0",
     "reports among these",
+    "accepted patterns with != between two attributes of one event",
+    "accepted patterns with != between a group variable and another variable",
+    "accepted patterns with != between slot and amount, on blocks with both of the same 32 bits from 2^31 on",
+    "accepted patterns with != between slot and amount, on blocks with both 2147483647",
+    "reports of a pattern with !=",
+    "reports with a variable bound to different values, all of which a join by != asks",
+    "patterns refused with 4 for operator 6, and nothing else in that condition",
+    "patterns refused with 4 for operator 7, and nothing else in that condition",
     "passes where only the forward one refuses, with 10",
     "forward passes held against every list of bindings",
     "start-by-start passes of the reference held against its merged readings",
+    "among these, passes of a pattern with a join by !=",
     "wide cases with a 33rd binding",
     "wide cases, without joins, with a 33rd binding only behind many branches",
     "wide cases whose report needs more than the longest result slice",
@@ -57,9 +69,16 @@ static const char *const met_names[METS] = {
     "wide cases with many records behind full readings that nothing can follow",
     "wide cases with joins",
     "wide cases with a condition on wave",
+    "wide cases with a join by !=",
 };
 
-static bool is_wide(int met) { return met >= MET_WIDE_TOO_LONG && met <= MET_WIDE_WAVE; }
+static const char *const place_names[PLACES] = {
+    "accepted patterns with != beside a constant",
+    "accepted patterns with a join by !=, by first attribute",
+    "accepted patterns with a join by !=, by second attribute",
+};
+
+static bool is_wide(int met) { return met >= MET_WIDE_TOO_LONG && met <= MET_WIDE_NOT_EQUAL; }
 
 void print_answers(bool with_measure) {
   printf("answers by their code, 0 accepted; a dash where the call has no such refusal\n%-15s", "");
@@ -86,15 +105,14 @@ void demand_all_met(bool with_measure, bool with_wide) {
       printf("FAILED: no case met %s with code %u\n", call_names[call], code);
       tally.failed++;
     }
-  for (int met = 0; met < METS; met++) {
-    if (is_wide(met) && !with_wide) continue;
-    printf("%9" PRIu64 " %s\n", tally.met[met], met_names[met]);
-    if (tally.met[met] > 0) continue;
-    printf("FAILED: never met: %s\n", met_names[met]);
-    tally.failed++;
-  }
+  for (int met = 0; met < METS; met++)
+    if (with_wide || !is_wide(met)) demand(tally.met[met], met_names[met], "", &tally.failed);
+  for (int place = 0; place < PLACES; place++)
+    demand_each(place_names[place], tally.not_equal[place], attribute_words, ATTRIBUTES, &tally.failed);
+  demand_each("forward passes that answer or report something else with another operator in the place of !=",
+              tally.otherwise, operator_words, NOT_EQUAL, &tally.failed);
   if (!with_wide) return;
-  printf("%" PRIu64 " wide cases in all; cut as too wide: %" PRIu64 " with too many groups of readings, %" PRIu64
-         " on which a trial did not end\n",
+  printf("%" PRIu64 " wide cases in all; cut as too wide: %" PRIu64
+         " with too many groups of readings or too many values, %" PRIu64 " on which a trial did not end\n",
          tally.wide, tally.too_many_groups, tally.trial_too_long);
 }

@@ -5,6 +5,8 @@
 #include <stdbool.h>
 #include <stdint.h>
 
+#include "rules.h"
+
 enum { CALL_PATTERN, CALL_BLOCK, CALL_LISTING, CALL_FORWARD, CALL_STARTS, CALL_MEASURE, CALLS };
 extern const char *const call_names[CALLS];
 
@@ -40,9 +42,18 @@ enum {
   MET_WAVE_DECIDES,
   MET_WITHOUT_WAVES,
   MET_WITHOUT_WAVES_REPORT,
+  MET_NOT_EQUAL_OWN,
+  MET_NOT_EQUAL_GROUP,
+  MET_NOT_EQUAL_BITS,
+  MET_NOT_EQUAL_EDGE,
+  MET_NOT_EQUAL_REPORT,
+  MET_NOT_EQUAL_APART,
+  MET_OPERATOR_6,
+  MET_OPERATOR_7,
   MET_LIVE_ALONE,
   MET_BY_RULE,
   MET_MERGED,
+  MET_MERGED_NOT_EQUAL,
   MET_WIDE_TOO_LONG,
   MET_WIDE_BEFORE,
   MET_WIDE_ROOM,
@@ -50,8 +61,13 @@ enum {
   MET_WIDE_BEHIND,
   MET_WIDE_JOINS,
   MET_WIDE_WAVE,
+  MET_WIDE_NOT_EQUAL,
   METS
 };
+
+/* Where an attribute stands in a condition: beside a constant, or on a side of a join, which is a condition between two
+   variables. */
+enum { BESIDE_CONSTANT, JOIN_FIRST, JOIN_SECOND, PLACES };
 
 /*
  * What is counted of a wide case shows that the start-by-start pass stops early, and for which reason it could. The
@@ -66,8 +82,10 @@ enum { WIDE_BEHIND = 100 };
 
 extern struct tally {
   uint64_t calls[CALLS], codes[CALLS][256], met[METS];
-  uint64_t passed, failed; /* cases and rows */
-  uint64_t wide;           /* wide cases, and cases cut because they were too wide: */
+  uint64_t not_equal[PLACES][ATTRIBUTES]; /* accepted patterns with != on the attribute in that place */
+  uint64_t otherwise[OPERATORS]; /* forward passes that do something else with the operator in the place of != */
+  uint64_t passed, failed;       /* cases and rows */
+  uint64_t wide;                 /* wide cases, and cases cut because they were too wide: */
   uint64_t too_many_groups, trial_too_long;
 } tally;
 

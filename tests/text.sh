@@ -52,6 +52,7 @@ text_refusals() {
 14|1|set b a|set a\nset b a\nwithin 1\n
 14|1|when b.core = 1|set a\nwhen b.core = 1\nset b\n
 14|1|when a.core == 1|set a\nwhen a.core == 1\nwithin 1\n
+14|1|when a.core =! 1|set a\nwhen a.core =! 1\nwithin 1\n
 14|1|when a.Core = 1|set a\nwhen a.Core = 1\nwithin 1\n
 14|1|when a.core = 007|set a\nwhen a.core = 007\nwithin 1\n
 14|1|when a.core >= -1|set a\nwhen a.core >= -1\nwithin 1\n

@@ -102,7 +102,7 @@ static void make_longest(struct random *r, struct making *m) {
   for (unsigned i = 0; i < CONDITIONS; i++)
     m->condition[i] = (struct condition){.variable = below(r, VARIABLES),
                                          .attribute = AMOUNT,
-                                         .operator= PICK(r, LESS_EQUAL, GREATER_EQUAL),
+                                         .operator= PICK(r, LESS_EQUAL, GREATER_EQUAL, NOT_EQUAL),
                                          .form = WITH_CONSTANT,
                                          .constant = -2147483648 + (int64_t)below(r, 1000000)};
   m->cycles = ((uint64_t)1 << 40) - 1 - below(r, 1000);

@@ -126,7 +126,7 @@ HARM(capital) {
 }
 
 HARM(scribble) {
-  static const char likely[] = "set when within ab+.core=<>-01\n\n";
+  static const char likely[] = "set when within ab+.core=<>!-01\n\n";
   UNUSED(m);
   t->length = below(r, 60);
   for (size_t i = 0; i < t->length; i++)

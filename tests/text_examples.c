@@ -13,12 +13,14 @@
 enum { FILE_ROOM = 2048 };
 
 struct file {
+  const char *name;
   size_t length;
   uint8_t bytes[FILE_ROOM];
 };
 
 static void load(const char *name, struct file *f) {
   FILE *file = fopen(name, "rb");
+  f->name = name;
   f->length = file == NULL ? 0 : fread(f->bytes, 1, FILE_ROOM, file);
   if (f->length == 0 || f->length == FILE_ROOM) {
     fprintf(stderr, "texts: %s cannot be read, or is not of its size\n", name);
@@ -27,23 +29,44 @@ static void load(const char *name, struct file *f) {
   fclose(file);
 }
 
+static void fill(const char *name, const void *bytes, size_t length, struct file *f) {
+  memset(f, 0, sizeof *f);
+  f->name = name;
+  f->length = length;
+  memcpy(f->bytes, bytes, length);
+}
+
+/* ---- texts and their patterns ---- */
+
+static void load_bench(struct file *text, struct file *pattern) {
+  load("examples/bench.txt", text);
+  load("examples/bench.pattern", pattern);
+}
+
+/* A text with !=, beside an attribute and beside a constant, and the bytes that Rule 2.3 gives it. */
+static void make_not_equal(struct file *text, struct file *pattern) {
+  static const char words[] = "set a b+\nwhen a.core != b.core\nwhen b.slot != 7\nwithin 5\n";
+  static const uint8_t bytes[] = {0x12, 2,    0, 0, 0, 0, 0, 5, 0x10, 0x18, /* then the conditions */
+                                  0x01, 0x62, 0, 0, 0, 0, 0, 0, 0x17, 0x40, 0, 0, 0, 0, 0, 7};
+  fill("a text with !=", words, strlen(words), text);
+  fill("the pattern of a text with !=", bytes, sizeof bytes, pattern);
+}
+
 static uint64_t success(size_t used) { return (uint64_t)used << 32; }
 
 static bool wrote(const struct file *f) { return memcmp(written, f->bytes, f->length) == 0; }
 
-static void run_bench_text(void) {
-  static struct file text, pattern;
-  load("examples/bench.txt", &text);
-  load("examples/bench.pattern", &pattern);
-  begin_text_case("examples/bench.txt", 0);
-  if (compare_read_text(text.bytes, text.length, SPALDEP_PATTERN_BYTES_MAX) != success(pattern.length) ||
-      !wrote(&pattern))
-    fail_text("does not give examples/bench.pattern");
+/* Each is made of the other. */
+static void run_both(const struct file *text, const struct file *pattern) {
+  begin_text_case(text->name, 0);
+  if (compare_read_text(text->bytes, text->length, SPALDEP_PATTERN_BYTES_MAX) != success(pattern->length) ||
+      !wrote(pattern))
+    fail_text("does not give the pattern of the text");
   end_text_case();
-  begin_text_case("examples/bench.pattern", 0);
-  if (compare_write_text(pattern.bytes, pattern.length, SPALDEP_TEXT_BYTES_MAX) != success(text.length) ||
-      !wrote(&text))
-    fail_text("does not give examples/bench.txt");
+  begin_text_case(pattern->name, 0);
+  if (compare_write_text(pattern->bytes, pattern->length, SPALDEP_TEXT_BYTES_MAX) != success(text->length) ||
+      !wrote(text))
+    fail_text("does not give the text of the pattern");
   end_text_case();
 }
 
@@ -82,20 +105,24 @@ static void run_upload_text(void) {
 }
 
 void run_example_texts(void) {
-  run_bench_text();
+  static struct file text, pattern;
+  load_bench(&text, &pattern);
+  run_both(&text, &pattern);
+  make_not_equal(&text, &pattern);
+  run_both(&text, &pattern);
   run_upload_text();
 }
 
 /* ---- every byte and every length ---- */
 
 static void read_changed(const struct file *f, size_t length, size_t pattern_len) {
-  begin_text_case("examples/bench.txt, changed", 0);
+  begin_text_case(f->name, 0);
   compare_read_text(f->bytes, length, pattern_len);
   end_text_case();
 }
 
 static void write_changed(const struct file *f, size_t length, size_t text_len) {
-  begin_text_case("examples/bench.pattern, changed", 0);
+  begin_text_case(f->name, 0);
   compare_write_text(f->bytes, length, text_len);
   end_text_case();
 }
@@ -103,6 +130,7 @@ static void write_changed(const struct file *f, size_t length, size_t text_len) 
 /* The text without the byte at `at`, and with it twice. */
 static void drop_and_double(const struct file *text, size_t at) {
   static struct file changed;
+  changed.name = text->name;
   memcpy(changed.bytes, text->bytes, at);
   memcpy(changed.bytes + at, text->bytes + at + 1, text->length - at - 1);
   read_changed(&changed, text->length - 1, SPALDEP_PATTERN_BYTES_MAX);
@@ -139,10 +167,17 @@ static void change_pattern(struct file *pattern, size_t text_len) {
 void run_changed_texts(void) {
   static struct file text, pattern;
   uint64_t before = text_tally.failed;
-  load("examples/bench.txt", &text);
-  load("examples/bench.pattern", &pattern);
+  load_bench(&text, &pattern);
+  text.name = "examples/bench.txt, changed";
+  pattern.name = "examples/bench.pattern, changed";
   change_text(&text, pattern.length);
   change_pattern(&pattern, text.length);
-  printf("the bench's text and pattern with each byte and each length changed: %" PRIu64 " differ\n",
+  make_not_equal(&text, &pattern);
+  text.name = "a text with !=, changed";
+  pattern.name = "the pattern of a text with !=, changed";
+  change_text(&text, pattern.length);
+  change_pattern(&pattern, text.length);
+  printf("the bench's text and pattern, and those with !=, with each byte and each length changed: %" PRIu64
+         " differ\n",
          text_tally.failed - before);
 }

@@ -6,7 +6,7 @@
 #include "texts.h"
 
 const char *const attribute_words[ATTRIBUTES] = {"core", "type", "class", "slot", "amount", "wave"};
-const char *const operator_words[OPERATORS] = {"=", "<", "<=", ">", ">="};
+const char *const operator_words[OPERATORS] = {"=", "<", "<=", ">", ">=", "!="};
 
 /* ---- words and numbers ---- */
 

@@ -42,10 +42,10 @@ static void break_condition(struct random *r, const struct making *m, uint8_t *p
   unsigned i = below(r, m->conditions);
   uint8_t *at = pattern + 8 + m->variables + 8 * i;
   switch (below(r, 5)) {
-    case 0: at[0] = (uint8_t)((at[0] & 0xf1) | PICK(r, 6, 7) << 1); break;                         /* attribute */
-    case 1: at[0] |= 1, at[1] = (uint8_t)((at[1] & 0x3f) | PICK(r, OPERATORS - 4, 3) << 6); break; /* operator */
-    case 2: at[0] = (uint8_t)((at[0] & 0x0f) | between(r, m->variables, 15) << 4); break;          /* variable */
-    case 3: at[PICK(r, 2, 3)] |= (uint8_t)(1u << below(r, 6)); break;                              /* zero bits */
+    case 0: at[0] = (uint8_t)((at[0] & 0xf1) | PICK(r, 6, 7) << 1); break;                /* attribute */
+    case 1: at[0] |= 1, at[1] = (uint8_t)((at[1] & 0x3f) | PICK(r, 2, 3) << 6); break;    /* operator 6 or 7 */
+    case 2: at[0] = (uint8_t)((at[0] & 0x0f) | between(r, m->variables, 15) << 4); break; /* variable */
+    case 3: at[PICK(r, 2, 3)] |= (uint8_t)(1u << below(r, 6)); break;                     /* zero bits */
     default:
       if (m->condition[i].form == WITH_CONSTANT)
         at[1] |= 2; /* second variable */

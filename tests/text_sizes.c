@@ -40,6 +40,8 @@ static const struct large {
     {"a million spaces", "set a\nset b", " ", 1000000, "\nwithin 1\n", 14, 1},
     {"an attribute of a million letters", "set a\nwhen a.", "core", 250000, " = 1\nwithin 1\n", 14, 1},
     {"an operator of a million bytes", "set a\nwhen a.core ", "<=", 500000, " 1\nwithin 1\n", 14, 1},
+    {"!= half a million times", "set a\nwhen a.core ", "!=", 500000, " 1\nwithin 1\n", 14, 1},
+    {"60,000 conditions of !=", "set a\n", "when a.core != 0\n", 60000, "within 1\n", 2, 0},
     {"a million words", "set a\nwhen a.core = 1", " 1", 500000, "\nwithin 1\n", 14, 1},
     {"a first word of a million letters", "", "s", 1000000, " a\nwithin 1\n", 14, 0},
     {"a million line feeds", "", "\n", 1000000, "", 14, 0},

@@ -5,6 +5,7 @@
 #include <stdio.h>
 #include <string.h>
 
+#include "demands.h"
 #include "spaldep.h"
 #include "texts.h"
 
@@ -142,36 +143,17 @@ void print_text_answers(void) {
   }
 }
 
-static void demand(uint64_t count, const char *what, const char *of) {
-  printf("%9" PRIu64 " %s%s\n", count, what, of);
-  if (count > 0) return;
-  printf("FAILED: never met: %s%s\n", what, of);
-  text_tally.failed++;
-}
-
 static void demand_faults(int call) {
   char what[200];
   for (unsigned i = 0; i < fault_counts[call]; i++) {
     snprintf(what, sizeof what, "%s refuses with %u", text_call_names[call], fault_codes[call][i]);
-    demand(text_tally.codes[call][fault_codes[call][i]], what, "");
+    demand(text_tally.codes[call][fault_codes[call][i]], what, "", &text_tally.failed);
     for (unsigned j = i + 1; j < fault_counts[call]; j++) {
       if (call == WRITE_TEXT && i == WRITE_SHORT && j != WRITE_ROOM) continue; /* there is nothing to judge */
       snprintf(what, sizeof what, "of these, %s and ", fault_names[call][i]);
-      demand(text_tally.pairs[call][i][j], what, fault_names[call][j]);
+      demand(text_tally.pairs[call][i][j], what, fault_names[call][j], &text_tally.failed);
     }
   }
-}
-
-/* Several counts in one line, each behind its word. */
-static void demand_each(const char *what, const uint64_t *counts, const char *const *words, unsigned count) {
-  uint64_t least = UINT64_MAX;
-  printf("          %s:", what);
-  for (unsigned i = 0; i < count; i++) {
-    printf("%s %s: %" PRIu64, i == 0 ? "" : ",", words[i], counts[i]);
-    if (counts[i] < least) least = counts[i];
-  }
-  printf("\n");
-  demand(least, what, ", the least of these");
 }
 
 static void demand_variables(void) {
@@ -182,19 +164,21 @@ static void demand_variables(void) {
     words[i] = digits[i];
   }
   demand_each("texts refused with 2 for so many variables", text_tally.variables + VARIABLES + 1, words,
-              LETTERS - VARIABLES);
+              LETTERS - VARIABLES, &text_tally.failed);
 }
 
 void demand_all_texts_met(void) {
+  uint64_t *failed = &text_tally.failed;
   for (int call = 0; call < TEXT_CALLS; call++) {
-    demand(text_tally.codes[call][0], text_call_names[call], " accepts");
+    demand(text_tally.codes[call][0], text_call_names[call], " accepts", failed);
     demand_faults(call);
   }
   for (size_t i = 0; i < damage_count(); i++)
-    demand(text_tally.damaged[i], damage_at(i)->name, ", alone: refused with 14");
-  for (int met = 0; met < TEXT_METS; met++) demand(text_tally.met[met], met_names[met], "");
+    demand(text_tally.damaged[i], damage_at(i)->name, ", alone: refused with 14", failed);
+  for (int met = 0; met < TEXT_METS; met++) demand(text_tally.met[met], met_names[met], "", failed);
   demand_variables();
-  demand_each("accepted conditions by attribute", text_tally.attributes, attribute_words, ATTRIBUTES);
-  demand_each("accepted conditions by second attribute", text_tally.second_attributes, attribute_words, ATTRIBUTES);
-  demand_each("accepted conditions by operator", text_tally.operators, operator_words, OPERATORS);
+  demand_each("accepted conditions by attribute", text_tally.attributes, attribute_words, ATTRIBUTES, failed);
+  demand_each("accepted conditions by second attribute", text_tally.second_attributes, attribute_words, ATTRIBUTES,
+              failed);
+  demand_each("accepted conditions by operator", text_tally.operators, operator_words, OPERATORS, failed);
 }

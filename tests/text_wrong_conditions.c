@@ -52,8 +52,16 @@ HARM(unknown_right) {
 
 /* Operators that there are not. */
 HARM(wrong_operator) {
-  static const char *const wrong[] = {"!=",  "==",  "=>",  "=<", "<>", "><", "<<", ">>",
-                                      "<==", ">==", "===", "!",  "~",  "is", ""};
+  static const char *const wrong[] = {"==", "=>", "=<", "><", "<<", ">>", "<==", ">==", "===", "~", "is", "not", ""};
+  size_t line = any_when(r, m, t);
+  replace_word(t, line, 2, ANY_OF(r, wrong));
+  return line;
+}
+
+/* Ways to write != that there are not, and words that begin or end as it does. */
+HARM(near_not_equal) {
+  static const char *const wrong[] = {"!",  "=!", "<>", "! =", "!==", "!!=", "=!=", "!=!", "!=<", "<!=",
+                                      "~=", "/=", "^=", "!<",  "!>",  "!>=", "ne",  "!-",  "!=-", "\xe2\x89\xa0"};
   size_t line = any_when(r, m, t);
   replace_word(t, line, 2, ANY_OF(r, wrong));
   return line;
@@ -161,6 +169,7 @@ const struct damage condition_damages[] = {
     {"an unknown name on the left", unknown_left},
     {"an unknown name on the right", unknown_right},
     {"an operator that there is not", wrong_operator},
+    {"an operator near !=", near_not_equal},
     {"an attribute that there is not", wrong_attribute},
     {"a when line of another shape", wrong_when},
     {"-0", minus_zero},

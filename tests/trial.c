@@ -76,7 +76,7 @@ bool wide_trial_ends(const uint8_t *pattern, size_t pattern_len, const uint8_t *
   static struct block b;
   if (read_all(pattern, pattern_len, block, block_len, &p, &b) != 0) return true;
   if (!m->joins) return true;
-  view_of(&trial.view, &p, &b);
+  if (!view_of(&trial.view, &p, &b)) return false;
   trial.least = b.count;
   trial.numbers = trial.tried = 0;
   for (size_t first = 0; first < b.count && trial.tried < MOST_TRIED; first++)

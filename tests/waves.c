@@ -3,6 +3,7 @@
 
 #include <string.h>
 
+#include "otherwise.h"
 #include "reference.h"
 #include "rules.h"
 #include "spaldep.h"
@@ -57,14 +58,7 @@ static void count_accepted_pattern(const struct pattern *p) {
 /* Whether the condition that a pattern is refused for has an attribute above wave in the field that begins `from` bits
    into it, and would be in order with wave there. */
 static bool refused_for_attribute(const struct test_case *c, uint64_t answer, size_t from) {
-  uint8_t pattern[PATTERN_ROOM];
-  struct pattern p;
-  memcpy(pattern, c->pattern, c->pattern_len);
-  read_pattern(pattern, c->pattern_len, &p);
-  const struct condition *k = &p.condition[spaldep_place(answer)];
-  if ((from == 4 ? k->attribute : k->second_attribute) <= WAVE) return false;
-  set_field(pattern + 8 + p.n + 8 * (size_t)spaldep_place(answer), from, 3, WAVE);
-  return read_pattern(pattern, c->pattern_len, &p) != answer;
+  return refused_for(c, answer, from, 6, WAVE) || refused_for(c, answer, from, 7, WAVE);
 }
 
 static void count_pattern(const struct test_case *c, uint64_t answer) {
@@ -74,8 +68,8 @@ static void count_pattern(const struct test_case *c, uint64_t answer) {
     count_accepted_pattern(&p);
   }
   if (spaldep_code(answer) != SPALDEP_REFUSED_CONDITION) return;
-  tally.met[MET_ATTRIBUTE_FIRST] += refused_for_attribute(c, answer, 4);
-  tally.met[MET_ATTRIBUTE_SECOND] += refused_for_attribute(c, answer, 15);
+  tally.met[MET_ATTRIBUTE_FIRST] += refused_for_attribute(c, answer, ATTRIBUTE_AT);
+  tally.met[MET_ATTRIBUTE_SECOND] += refused_for_attribute(c, answer, SECOND_ATTRIBUTE_AT);
 }
 
 /* ---- blocks ---- */
@@ -125,14 +119,13 @@ static void count_block(const struct test_case *c, uint64_t answer) {
 
 /* Whether the forward pass answers or reports something else where waves are 0. */
 static bool waves_decide(const struct test_case *c) {
-  static uint8_t block[BLOCK_ROOM], work[LIMIT * WORK_BYTES], result[RESULT_BYTES], otherwise[RESULT_BYTES];
-  uint64_t with = reference_forward(c->pattern, c->pattern_len, c->block, c->block_len, LIMIT, work, sizeof work,
-                                    result, sizeof result);
+  static struct outcome outcome, otherwise;
+  static uint8_t block[BLOCK_ROOM];
   memcpy(block, c->block, c->block_len);
   clear_waves(block, c->block_len);
-  uint64_t without = reference_forward(c->pattern, c->pattern_len, block, c->block_len, LIMIT, work, sizeof work,
-                                       otherwise, sizeof otherwise);
-  return with != without || memcmp(result, otherwise, sizeof result) != 0;
+  forward_outcome(c->pattern, c->pattern_len, c->block, c->block_len, &outcome);
+  forward_outcome(c->pattern, c->pattern_len, block, c->block_len, &otherwise);
+  return !same_outcome(&outcome, &otherwise);
 }
 
 void count_waves(const struct test_case *c, uint64_t pattern_answer, uint64_t block_answer) {

@@ -12,6 +12,7 @@ enum family {
   OUT_OF_ORDER, /* and the class of the variable before it comes behind that, and once or never in front */
   ONE_FOR_TWO,  /* the last two ask for one class, which comes once, late, or never */
   SAME_CORE,    /* of two cores, each variable that of variable 0 */
+  OTHER_CORE,   /* of a few cores, each variable another than variable 0 */
   SLOT_AT_MOST, /* each variable's slot is at most that of the next one */
   LAST_FAILS    /* the last variable's slot is above that of variable 0, which it never is, or once, late */
 };
@@ -23,11 +24,12 @@ static bool joined(enum family f) { return f >= SAME_CORE; }
 /* The attribute that a family's conditions ask for where it is not wave. */
 static unsigned own_attribute(enum family f) {
   if (!joined(f)) return SPALDEP_ATTRIBUTE_CLASS;
-  return f == SAME_CORE ? SPALDEP_ATTRIBUTE_CORE : SPALDEP_ATTRIBUTE_SLOT;
+  return f == SAME_CORE || f == OTHER_CORE ? SPALDEP_ATTRIBUTE_CORE : SPALDEP_ATTRIBUTE_SLOT;
 }
 
 struct sizes {
   unsigned records, gap; /* the record that is a gap, or past them all */
+  bool first_apart;      /* variable 0 is in a set of its own, and all others in the next one */
 };
 
 static void any_sizes(struct random *r, enum family f, struct sizes *size) {
@@ -77,13 +79,26 @@ static void rates_wide(struct random *r, struct knobs *k, struct sizes *size) {
   k->variables = between(r, 3, 5);
   k->sets = 2;
   k->group_percent = 100;
-  k->first_single = true;
+  k->first_single = size->first_apart = true;
   k->time_step = 1;
   k->window = size->records;
 }
 
+/* Variable 0 takes an event or some, and the others then share the events of all other cores, or of other waves. */
+static void others_wide(struct random *r, struct knobs *k, struct sizes *size) {
+  size->records = size->gap = between(r, 32, 60);
+  k->variables = between(r, 3, 6);
+  k->sets = 2;
+  k->group_percent = PICK(r, 80, 100);
+  k->first_single = chance(r, 50);
+  size->first_apart = true;
+  k->time_step = 1;
+  k->window = PICK(r, 28, 33, size->records, size->records, size->records);
+}
+
 static void wide_knobs(struct random *r, enum family f, struct knobs *k, struct sizes *size) {
   unsigned n = below(r, 100);
+  size->first_apart = false;
   *k = (struct knobs){.shape = "wide", .cores = 2, .waves = PICK(r, 1, 3, 256)};
   if (n < 15 && !joined(f))
     parted_wide(r, k, size);
@@ -91,8 +106,11 @@ static void wide_knobs(struct random *r, enum family f, struct knobs *k, struct 
     plain_wide(r, k, size);
   else if (n < 35 && f == SAME_CORE)
     rates_wide(r, k, size);
+  else if (n < 80 && f == OTHER_CORE)
+    others_wide(r, k, size);
   else
     any_wide(r, f, k, size);
+  if (f == OTHER_CORE) k->cores = between(r, 2, 4);
   k->records = size->records;
 }
 
@@ -110,6 +128,7 @@ static unsigned wide_conditions(enum family f, unsigned attribute, const struct 
     if (f == OUT_OF_ORDER && v > 0 && v + 1 >= last) put_is(at + 8 * c++, v, attribute, v == last ? 2 : 1);
     if (f == ONE_FOR_TWO && v > 0 && v + 1 >= last) put_is(at + 8 * c++, v, attribute, 1);
     if (f == SAME_CORE && v > 0) put_join(at + 8 * c++, v, SPALDEP_OPERATOR_EQUAL, 0, attribute);
+    if (f == OTHER_CORE && v > 0) put_join(at + 8 * c++, v, SPALDEP_OPERATOR_NOT_EQUAL, 0, attribute);
     if (f == SLOT_AT_MOST && v > 0) put_join(at + 8 * c++, v - 1, SPALDEP_OPERATOR_LESS_EQUAL, v, attribute);
   }
   if (f == LAST_FAILS && last > 0) put_join(at + 8 * c++, last, SPALDEP_OPERATOR_GREATER, 0, attribute);
@@ -140,7 +159,8 @@ static unsigned number_at(struct random *r, enum family f, const struct knobs *k
     case ONE_FOR_TWO:
     case LAST_FAILS: return record == t->late;
     case OUT_OF_ORDER: return record == t->late ? 2 : record == t->early || record > t->late;
-    case SAME_CORE: return t->cores == 1 ? record % k->cores : below(r, k->cores);
+    case SAME_CORE:
+    case OTHER_CORE: return t->cores == 1 ? record % k->cores : below(r, k->cores);
     case SLOT_AT_MOST: return below(r, t->slots);
     default: return 0;
   }
@@ -180,7 +200,7 @@ static void wide_block(struct random *r, enum family f, unsigned attribute, cons
 void make_wide(struct random *r, struct test_case *out) {
   enum family f =
       (enum family)PICK(r, NO_CONDITIONS, NO_CONDITIONS, CLASS_OF_SET, CLASS_OF_SET, LAST_SELDOM, LAST_SELDOM,
-                        OUT_OF_ORDER, ONE_FOR_TWO, SAME_CORE, SAME_CORE, SLOT_AT_MOST, LAST_FAILS);
+                        OUT_OF_ORDER, ONE_FOR_TWO, SAME_CORE, SAME_CORE, OTHER_CORE, SLOT_AT_MOST, LAST_FAILS);
   struct knobs k;
   struct sizes size;
   wide_knobs(r, f, &k, &size);
@@ -188,7 +208,7 @@ void make_wide(struct random *r, struct test_case *out) {
   wide_block(r, f, attribute, &k, size.gap, out);
   memset(out->pattern, 0, PATTERN_ROOM);
   put_variables(r, &k, out->pattern + 8);
-  if (k.first_single) first_in_own_set(k.variables, out->pattern + 8);
+  if (size.first_apart) first_in_own_set(k.variables, out->pattern + 8);
   if (f == OUT_OF_ORDER) last_in_own_set(k.variables, out->pattern + 8);
   unsigned c = wide_conditions(f, attribute, &k, out->pattern + 8, out->pattern + 8 + k.variables);
   put_header(r, &k, c, out);
