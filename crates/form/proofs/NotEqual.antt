@@ -12,12 +12,12 @@ use Rattle.numbers.specs.Bytes.{wordBytes}
 use Rattle.numbers.specs.Decimal.{decimal, digits}
 use Rattle.records.specs.declared.Answer.{Answer}
 use Rattle.patterns.specs.Patterns.{header, headerBroken, variableBroken, setNumber, leastSet, greatestSet}
-use Rattle.patterns.specs.Patterns.{variableZero, conditionOf, conditionZero, conditionWord, formBroken, conditionBroken}
+use Rattle.patterns.specs.Patterns.{variableZero, conditionOf, conditionZero, conditionWord, formBroken}
+use Rattle.patterns.specs.Patterns.{conditionBroken}
 use Rattle.patterns.specs.Checked.{patternAnswer, firstBadVariable, firstBadCondition}
 use Rattle.form.specs.Form.{When, Making, names, textOf, setLine, whenLine, withinLine, line, spaced, memberWord}
 use Rattle.form.specs.Form.{sideWord, operandWord, integer, attributeWord, attributeWords, operatorWord}
-use Rattle.form.specs.Form.{operatorWords, Once, inRange, SideInOrder, OperandInOrder, WhenInOrder, InOrder}
-use Rattle.form.specs.Form.{InForm}
+use Rattle.form.specs.Form.{operatorWords, Once, inRange, OperandInOrder, WhenInOrder, InOrder}
 use Rattle.form.specs.Form.Operand.{constant}
 use Rattle.form.specs.Packed.{placeOf, memberByte, memberBytes, bitsOf, conditionIn, conditionBits, whenBits}
 use Rattle.form.specs.Packed.{headerBits, patternBytes, Fits}
@@ -36,7 +36,8 @@ making = record { sets = (record { name = 97; group = false } ∷ []) ∷ []; wh
 abbrev pub otherText : List ℕ
 otherText =
     0x73 ∷ 0x65 ∷ 0x74 ∷ 0x20 ∷ 0x61 ∷ 0x0a
-    ∷ 0x77 ∷ 0x68 ∷ 0x65 ∷ 0x6e ∷ 0x20 ∷ 0x61 ∷ 0x2e ∷ 0x63 ∷ 0x6f ∷ 0x72 ∷ 0x65 ∷ 0x20 ∷ 0x21 ∷ 0x3d ∷ 0x20 ∷ 0x31 ∷ 0x0a
+    ∷ 0x77 ∷ 0x68 ∷ 0x65 ∷ 0x6e ∷ 0x20 ∷ 0x61 ∷ 0x2e ∷ 0x63 ∷ 0x6f ∷ 0x72 ∷ 0x65 ∷ 0x20 ∷ 0x21 ∷ 0x3d
+    ∷ 0x20 ∷ 0x31 ∷ 0x0a
     ∷ 0x77 ∷ 0x69 ∷ 0x74 ∷ 0x68 ∷ 0x69 ∷ 0x6e ∷ 0x20 ∷ 0x30 ∷ 0x0a ∷ []
 
 -- its pattern

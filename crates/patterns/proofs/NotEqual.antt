@@ -1,6 +1,6 @@
--- What operator 5, !=, asks: a condition with it holds exactly where the two whole numbers are different, and so exactly
--- where the same condition with operator 0, =, does not, for one and the same pair of events. It is the last operator
--- that the check lets through. Assumes nothing.
+-- What operator 5, !=, asks: a condition with it holds exactly where the two whole numbers are different, and so
+-- exactly where the same condition with operator 0, =, does not, for one and the same pair of events. It is the last
+-- operator that the check lets through. Assumes nothing.
 use mathlib.Core.Path.{_≡_, _∙_, refl, sym, ap}
 use mathlib.Core.Bool.{true, false, not}
 use mathlib.Core.List.{List, [], _∷_}
@@ -63,10 +63,6 @@ module _ (k : Condition) (first second : Record) where
       by-order-is e s =
           with-operator isNotEqual ∙ ap (meets isNotEqual) e ∙ s
           ∙ ap (λ (o : ℕ). not (meets isEqual o)) (sym e) ∙ ap not (sym (with-operator isEqual))
-
-  -- = holds of equal numbers
-  pub equal-holds : left ≡ right → holds (withOperator isEqual k) first second ≡ true
-  equal-holds e = with-operator isEqual ∙ ap (meets isEqual) (equal-order left right e)
 
   -- != holds of no equal numbers
   pub equal-fails : left ≡ right → holds (withOperator isNotEqual k) first second ≡ false

@@ -3,10 +3,9 @@
 -- not report the events of every core but the one named is shut out. Assumes nothing.
 use mathlib.Core.Path.{_≡_, refl, sym, ap, _∙_}
 use mathlib.Core.Bool.{Bool, true, false, not, _&&_}
-use mathlib.Core.List.{List, [], _∷_, map, List·Memᴰ·head, List·Memᴰ·tail}
+use mathlib.Core.List.{List, [], _∷_, List·Memᴰ·head, List·Memᴰ·tail}
 use Prim.Native.Nat.{ℕ}
 use native.Mathlib.Omega.{arith}
-use lib.Dec.{eqb}
 use lib.ListN.{getD}
 use borrow.Author.Tests.{eq-eqb, ne-eqb}
 use Rattle.numbers.specs.Numbers.{bytesOf}
@@ -17,8 +16,8 @@ use Rattle.patterns.specs.declared.Condition.{Condition}
 use Rattle.patterns.specs.Comparison.{value, orderOf, comparedWith, holds}
 use Rattle.patterns.proofs.NotEqual.{isEqual, isNotEqual, withOperator, differs}
 use Rattle.automaton.specs.Filtering.{all, keep, filter}
-use Rattle.rule.specs.Rule.{Block, Binding, Reading, recordIn, choices, passes}
-use Rattle.rule.specs.Calls.{zeros, resultOf, ForwardCall, StartByStartCall, MeasureCall}
+use Rattle.rule.specs.Rule.{Block, Reading, recordIn, choices, passes}
+use Rattle.rule.specs.Calls.{resultOf, ForwardCall, StartByStartCall, MeasureCall}
 use Rattle.rule.specs.Bench.{otherPattern, coresBlock, otherNumbers, otherCores, fullLimit, fullWork, fullResult}
 use Rattle.rule.specs.Bench.{gives}
 use Rattle.rule.proofs.Calls.{forward-one, start-by-start-one, measure-one}
