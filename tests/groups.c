@@ -5,10 +5,6 @@
 
 static const unsigned NOT_ASKED = 1u << VARIABLES;
 
-static bool is_join(const struct condition *k) {
-  return k->form == WITH_ATTRIBUTE && k->variable != k->second_variable;
-}
-
 static size_t side_of(struct view *w, unsigned variable, unsigned attribute) {
   size_t i = 0;
   while (i < w->sides && (w->side[i].variable != variable || w->side[i].attribute != attribute)) i++;

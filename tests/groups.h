@@ -12,7 +12,7 @@
 
 enum { MOST_SIDES = VARIABLES * ATTRIBUTES, MOST_VALUES = 64 };
 
-/* One side of a join, which is a condition between two variables. */
+/* One side of a join: see is_join. */
 struct side {
   unsigned variable, attribute;
   unsigned least_for, greatest_for; /* the variables whose new event is held against its least, or its greatest */

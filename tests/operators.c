@@ -10,10 +10,6 @@
 
 /* ---- patterns ---- */
 
-static bool is_join(const struct condition *k) {
-  return k->form == WITH_ATTRIBUTE && k->variable != k->second_variable;
-}
-
 /* What an accepted pattern asks with !=: anything, a condition between two variables, one on two attributes of the same
    event, one that a group variable has a side of, one between slot and amount; and each attribute by its place. */
 struct asked {

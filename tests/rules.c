@@ -216,6 +216,10 @@ bool holds(const struct block *b, const struct condition *k, size_t first, size_
   return compares(left, k->operator, right);
 }
 
+bool is_join(const struct condition *k) {
+  return k->form == WITH_ATTRIBUTE && k->variable != k->second_variable;
+}
+
 /* Rule 5.3: whether a condition holds of the new event beside each event that its other variable is bound to. One that
    is about v alone, on one side or on both, asks the new event and no earlier one. */
 static bool condition_holds(const struct block *b, const struct condition *k, const struct reading *r, size_t bindings,

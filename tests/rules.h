@@ -92,6 +92,9 @@ int64_t value(const struct record *r, unsigned attribute);
 bool compares(int64_t left, unsigned operator, int64_t right);
 bool holds(const struct block *b, const struct condition *k, size_t first, size_t second);
 
+/* Whether a condition is between two variables. */
+bool is_join(const struct condition *k);
+
 /* Of the step on v from a state, whose bit j says that variable j is bound. */
 bool step_leaves(const struct pattern *p, unsigned state, unsigned v);
 bool order_mark(const struct pattern *p, unsigned state, unsigned v);

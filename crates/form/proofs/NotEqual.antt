@@ -7,14 +7,13 @@ use Prim.Native.Nat.{ℕ, _-_, _≤_}
 use native.Mathlib.Omega.{arith}
 use lib.IntN.{pos}
 use lib.ListN.{length, replicate}
-use Rattle.numbers.specs.Numbers.{number, upto, first, firstFrom, count}
+use Rattle.numbers.specs.Numbers.{number, upto}
 use Rattle.numbers.specs.Bytes.{wordBytes}
 use Rattle.numbers.specs.Decimal.{decimal, digits}
 use Rattle.records.specs.declared.Answer.{Answer}
-use Rattle.patterns.specs.Patterns.{header, headerBroken, variableBroken, setNumber, leastSet, greatestSet}
-use Rattle.patterns.specs.Patterns.{variableZero, conditionOf, conditionZero, conditionWord, formBroken}
-use Rattle.patterns.specs.Patterns.{conditionBroken}
-use Rattle.patterns.specs.Checked.{patternAnswer, firstBadVariable, firstBadCondition}
+use Rattle.patterns.specs.Patterns.{header}
+use Rattle.patterns.specs.Checked.{patternAnswer}
+use Rattle.patterns.proofs.NotEqual.{four-from-six}
 use Rattle.form.specs.Form.{When, Making, names, textOf, setLine, whenLine, withinLine, line, spaced, memberWord}
 use Rattle.form.specs.Form.{sideWord, operandWord, integer, attributeWord, attributeWords, operatorWord}
 use Rattle.form.specs.Form.{operatorWords, Once, inRange, OperandInOrder, WhenInOrder, InOrder}
@@ -58,9 +57,7 @@ unfolding patternBytes headerBits memberBytes memberByte whenBits conditionIn co
 bytes-are = refl
 
 accepted : patternAnswer otherBytes .code ≡ 0
-unfolding patternAnswer headerBroken header number firstBadVariable first firstFrom variableBroken setNumber leastSet
-    greatestSet variableZero count firstBadCondition conditionBroken conditionWord conditionOf conditionZero formBroken
-accepted = refl
+accepted = four-from-six .0
 
 asked-order : WhenInOrder (97 ∷ []) asked
 unfolding OperandInOrder inRange

@@ -84,19 +84,11 @@ byOperator operator =
     0x11 ∷ 0x01 ∷ 0x00 ∷ 0x00 ∷ 0x00 ∷ 0x00 ∷ 0x00 ∷ 0x00 ∷ 0x10
     ∷ (operator / 4) ∷ (operator % 4 * 64) ∷ 0x00 ∷ 0x00 ∷ 0x00 ∷ 0x00 ∷ 0x00 ∷ 0x01 ∷ []
 
--- a check that refuses != is shut out
-pub five-accepted : patternAnswer (byOperator isNotEqual) .code ≡ 0
+-- refusal 4 begins at operator 6: a check that refuses !=, or takes what comes behind it, is shut out
+pub four-from-six :
+    (patternAnswer (byOperator isNotEqual) .code ≡ 0)
+    × (patternAnswer (byOperator 6) ≡ refused 4 0)
+    × (patternAnswer (byOperator 7) ≡ refused 4 0)
 unfolding patternAnswer headerBroken header number firstBadVariable first firstFrom variableBroken setNumber leastSet
     greatestSet variableZero count firstBadCondition conditionBroken conditionWord conditionOf conditionZero formBroken
-five-accepted = refl
-
--- and so is one that takes what comes behind it
-pub six-refused : patternAnswer (byOperator 6) ≡ refused 4 0
-unfolding patternAnswer headerBroken header number firstBadVariable first firstFrom variableBroken setNumber leastSet
-    greatestSet variableZero count firstBadCondition conditionBroken conditionWord conditionOf conditionZero formBroken
-six-refused = refl
-
-pub seven-refused : patternAnswer (byOperator 7) ≡ refused 4 0
-unfolding patternAnswer headerBroken header number firstBadVariable first firstFrom variableBroken setNumber leastSet
-    greatestSet variableZero count firstBadCondition conditionBroken conditionWord conditionOf conditionZero formBroken
-seven-refused = refl
+four-from-six = (refl, refl, refl)
