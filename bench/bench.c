@@ -7,35 +7,20 @@
 #define _DEFAULT_SOURCE
 #include <stdbool.h>
 #include <stdio.h>
-#include <stdlib.h>
 #include <string.h>
-#include <sys/mman.h>
-#include <ucontext.h>
 
+#include "passes.h"
 #include "seconds.h"
 #include "spaldep.h"
 #include "workloads.h"
 #include "yardstick.h"
 
-enum { ROUNDS = 60, LIMIT = SPALDEP_LIMIT_MAX, STACK_BYTES = 4 << 20, PAINT = 0xa5 };
+enum { ROUNDS = 60 };
 static const double ROUND_SECONDS = 0.0015;
-
-typedef uint64_t (*pass)(const struct workload *w, uint8_t *result);
-
-static uint8_t work[SPALDEP_WORK_BYTES(LIMIT)];
-
-static uint64_t library_forward(const struct workload *w, uint8_t *result) {
-  return spaldep_forward(w->pattern, w->pattern_len, w->block, w->block_len, LIMIT, work, sizeof work, result,
-                         SPALDEP_RESULT_BYTES_MAX);
-}
 
 static uint64_t plain_forward(const struct workload *w, uint8_t *result) {
   return yardstick_forward(w->pattern, w->pattern_len, w->block, w->block_len, LIMIT, work, sizeof work, result,
                            SPALDEP_RESULT_BYTES_MAX);
-}
-
-static uint64_t library_starts(const struct workload *w, uint8_t *result) {
-  return spaldep_start_by_start(w->pattern, w->pattern_len, w->block, w->block_len, result, SPALDEP_RESULT_BYTES_MAX);
 }
 
 static uint64_t plain_starts(const struct workload *w, uint8_t *result) {
@@ -116,47 +101,18 @@ static bool compare_times(const char *name, const char *asked, pass library, pas
 
 /* The lines of one pass. */
 static bool compare_all(const char *name, pass library, pass plain) {
-  static const char *const names[WAYS_TO_ASK] = {"class", "type", "amount", "wave", "type and slot", "itself"};
   static struct workload w;
   bool all = true;
   for (enum asked asked = BY_CLASS; asked < WAYS_TO_ASK; asked++)
     for (unsigned i = 0; i < WORKLOADS; i++) {
-      if (i == JOINS_WORKLOAD && (asked == BY_AMOUNT || asked == BY_ITSELF)) continue;
+      if (!has_way(i, asked)) continue;
       make_workload(i, asked, &w);
-      all = compare_times(name, names[asked], library, plain, &w) && all;
+      all = compare_times(name, way_names[asked], library, plain, &w) && all;
     }
   return all;
 }
 
 /* ---- stack ---- */
-
-static ucontext_t outside, inside;
-static pass painted_pass;
-static const struct workload *painted_workload;
-
-static void on_painted_stack(void) {
-  static uint8_t result[SPALDEP_RESULT_BYTES_MAX];
-  if (painted_pass != NULL) painted_pass(painted_workload, result);
-}
-
-/* Bytes of a fresh stack that a call, or no call where `run` is null, overwrites. */
-static size_t painted(pass run, const struct workload *w) {
-  static uint8_t *stack;
-  if (stack == NULL) stack = mmap(NULL, STACK_BYTES, PROT_READ | PROT_WRITE, MAP_PRIVATE | MAP_ANONYMOUS, -1, 0);
-  if (stack == MAP_FAILED) abort();
-  memset(stack, PAINT, STACK_BYTES);
-  painted_pass = run;
-  painted_workload = w;
-  getcontext(&inside);
-  inside.uc_stack.ss_sp = stack;
-  inside.uc_stack.ss_size = STACK_BYTES;
-  inside.uc_link = &outside;
-  makecontext(&inside, on_painted_stack, 0);
-  swapcontext(&outside, &inside);
-  size_t clean = 0;
-  while (clean < STACK_BYTES && stack[clean] == PAINT) clean++;
-  return STACK_BYTES - clean;
-}
 
 static size_t larger(size_t a, size_t b) { return a > b ? a : b; }
 

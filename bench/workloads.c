@@ -8,6 +8,8 @@ enum { BOUND_ON_SLOT = 90, NO_CORE_OR_TYPE = 200, NO_CLASS = 1000 };
 
 const uint8_t class_types[CLASSES] = {3, 17, 33, 65, 97, 129};
 
+const char *const way_names[WAYS_TO_ASK] = {"class", "type", "amount", "wave", "type and slot", "itself"};
+
 static enum asked way;
 
 static uint32_t chance_state;
@@ -172,6 +174,11 @@ static void deep_workload(struct workload *w) {
     }
   }
   for (size_t i = 0; i < RECORDS; i++) put_record(w, i, 0, i % 128 == 0 ? 0 : 5, (uint32_t)i, 0);
+}
+
+bool has_way(unsigned number, enum asked asked) {
+  if (number == JOINS_WORKLOAD) return asked != BY_AMOUNT && asked != BY_ITSELF;
+  return number < WORKLOADS || (number == WORKLOADS && asked == BY_CLASS);
 }
 
 void make_workload(unsigned number, enum asked asked, struct workload *out) {

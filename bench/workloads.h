@@ -3,6 +3,7 @@
 #ifndef WORKLOADS_H
 #define WORKLOADS_H
 
+#include <stdbool.h>
 #include <stddef.h>
 #include <stdint.h>
 
@@ -22,9 +23,13 @@ enum { WORKLOADS = 5, JOINS_WORKLOAD = 3 };
 /* What a workload's variables ask of an event alone: its class, its type, its amount, its wave, its type and a bound on
    its slot, or something of each that compares two of the event's own attributes. The same events meet them, but for
    the bound, which some of those events fail. JOINS_WORKLOAD, whose joins need slots and amounts of their own, has no
-   BY_AMOUNT and no BY_ITSELF. Events have waves with BY_WAVE alone; otherwise these are 0. */
+   BY_AMOUNT and no BY_ITSELF, and the one for the stack has BY_CLASS alone. Events have waves with BY_WAVE alone;
+   otherwise these are 0. */
 enum asked { BY_CLASS, BY_TYPE, BY_AMOUNT, BY_WAVE, BY_TYPE_AND_SLOT, BY_ITSELF, WAYS_TO_ASK };
 
+extern const char *const way_names[WAYS_TO_ASK];
+
+bool has_way(unsigned number, enum asked asked);
 void make_workload(unsigned number, enum asked asked, struct workload *out);
 
 /* ---- packing ---- */
