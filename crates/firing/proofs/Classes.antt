@@ -17,13 +17,14 @@ use Rattle.records.specs.declared.Record.{Record}
 use Rattle.records.specs.Records.{recordAt, classOf}
 use Rattle.patterns.specs.declared.Condition.{Condition}
 use Rattle.patterns.specs.Patterns.{mostConditions, lastAttribute}
-use Rattle.patterns.specs.Comparison.{value, orderOf, meets, constantValue, comparedWith, holds}
+use Rattle.patterns.specs.Comparison.{value, orderOf, meets, holds}
+use Rattle.patterns.proofs.Comparison.{compared-constant}
 use Rattle.automaton.specs.Filtering.{implies}
 use Rattle.firing.specs.Plan.{isOwn, onClass, isOnClass, otherOwn, isOther, classAttribute, bothSides}
 use Rattle.firing.specs.Plan.{typesTogether, typePlaces, sampleOf, classHolds, classMask, conditionIn, classIn}
 use Rattle.firing.specs.Plan.{Sound, Classed}
 use Rattle.firing.specs.Firing.{ownHolds, otherHolds, settledBy, canBy}
-use Rattle.firing.proofs.Own.{own-none}
+use Rattle.firing.proofs.Own.{own-none, class-form, class-attribute}
 
 -- ## Types of one class
 
@@ -42,12 +43,8 @@ same-class t h =
 module _ (k : Condition) where
   module _ (on : isOnClass k ≡ true) where
     value-class : (r : Record) → value (k .attribute) r ≡ pos (classOf (r .«event_type»))
-    unfolding onClass value
-    value-class r = ap (λ (a : ℕ). value a r) (eqb-true (k .attribute) classAttribute (both (eqb (k .form) 0) (eqb (k .attribute) classAttribute) on .1))
-
-    compared-constant : (r : Record) → comparedWith k r ≡ constantValue (k .attribute) (k .constant)
-    unfolding onClass comparedWith
-    compared-constant r = rw (both (eqb (k .form) 0) (eqb (k .attribute) classAttribute) on .0, comparedWith)
+    unfolding value
+    value-class r = ap (λ (a : ℕ). value a r) (class-attribute k on)
 
     -- a condition on class holds alike of events of one class
     on-class-holds : (r s : Record) → classOf (r .«event_type») ≡ classOf (s .«event_type») → holds k r r ≡ holds k s s
@@ -55,7 +52,7 @@ module _ (k : Condition) where
     on-class-holds r s e =
         ap₂ (λ (x y : ℤ). meets (k .operator) (orderOf x y))
         (value-class r ∙ ap pos e ∙ sym (value-class s))
-        (compared-constant r ∙ sym (compared-constant s))
+        (compared-constant k r (class-form k on) ∙ sym (compared-constant k s (class-form k on)))
 
 -- ## One condition
 

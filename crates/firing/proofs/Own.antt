@@ -4,18 +4,21 @@ use Rattle.automaton.proofs.All.{implies-yes}
 use mathlib.Core.Path.{_≡_, _∙_, refl, sym, ap, ap₂}
 use mathlib.Core.Bool.{Bool, true, false, not, _&&_, _||_, and-true, and-self}
 use Prim.Native.Nat.{ℕ, _+_, _-_, _*_, _^_}
-use borrow.Author.Tests.{ne-eqb, eqb-true, eqb-false}
+use borrow.Author.Tests.{eq-eqb, ne-eqb, eqb-true, eqb-false}
 use lib.Dec.{eqb}
+use lib.IntN.{pos}
 use Rattle.numbers.specs.Numbers.{every, oneIf}
 use Rattle.numbers.specs.Bits.{bit, mask}
-use Rattle.numbers.proofs.Cases.{by-test, neither}
+use Rattle.numbers.proofs.Cases.{by-test, both, neither}
 use Rattle.numbers.proofs.Every.{every-none, every-more}
 use Rattle.numbers.proofs.Bits.{mask-same, mask-all, mask-without}
 use Rattle.records.specs.declared.Record.{Record}
+use Rattle.records.specs.Records.{classOf}
 use Rattle.patterns.specs.declared.Condition.{Condition}
-use Rattle.patterns.specs.Comparison.{holds}
+use Rattle.patterns.specs.Comparison.{value, constantValue, orderOf, meets, holds, raise}
+use Rattle.patterns.proofs.Comparison.{compared-constant, raised-holds}
 use Rattle.automaton.specs.Filtering.{implies}
-use Rattle.firing.specs.Plan.{isOwn, isOnClass, sampleOf, classHolds, classMask}
+use Rattle.firing.specs.Plan.{isOwn, classAttribute, onClass, isOnClass, sampleOf, classHolds, classMask}
 use Rattle.firing.specs.Firing.{settled, settledOnClass}
 
 module _ (can : ℕ) (k : Condition) (r : Record) where
@@ -94,6 +97,36 @@ module _ (can : ℕ) (k : Condition) (r : Record) where
   unfolding settledOnClass
   off-class-settled e = rw (e, settledOnClass)
 
+module _ (k : Condition) (on : isOnClass k ≡ true) where
+  pub class-form : k .form ≡ 0
+  unfolding onClass
+  class-form = eqb-true (k .form) 0 (both (eqb (k .form) 0) (eqb (k .attribute) classAttribute) on .0)
+
+  pub class-attribute : k .attribute ≡ classAttribute
+  unfolding onClass
+  class-attribute = eqb-true (k .attribute) classAttribute (both (eqb (k .form) 0) (eqb (k .attribute) classAttribute) on .1)
+
+  -- where x is the class of the event and y the constant, both raised
+  module _ (can x y : ℕ) (r : Record) (first : x ≡ raise (pos (classOf (r .«event_type»))))
+      (second : y ≡ raise (constantValue classAttribute (k .constant))) where
+    raised-class-holds : meets (k .operator) (orderOf (pos x) (pos y)) ≡ holds k r r
+    unfolding value
+    raised-class-holds =
+        raised-holds k r r x y
+        (first ∙ ap (λ (a : ℕ). raise (value a r)) (sym class-attribute))
+        (second ∙ ap (λ (a : ℕ). raise (constantValue a (k .constant))) (sym class-attribute) ∙ ap raise (sym (compared-constant k r class-form)))
+
+    alone : eqb (k .form) 0 || eqb (k .variable) (k .variable2) ≡ true
+    alone = ap (λ (t : Bool). t || eqb (k .variable) (k .variable2)) (eq-eqb (k .form) 0 class-form)
+
+    pub class-kept : meets (k .operator) (orderOf (pos x) (pos y)) ≡ true → settledOnClass can k r ≡ can
+    class-kept e = on-class-settled can k r on ∙ settled-holds can k r alone (sym raised-class-holds ∙ e)
+
+    pub class-lost :
+        meets (k .operator) (orderOf (pos x) (pos y)) ≡ false
+        → settledOnClass can k r ≡ can - oneIf (bit can (k .variable)) * 2 ^ k .variable
+    class-lost e = on-class-settled can k r on ∙ settled-fails can k r alone (sym raised-class-holds ∙ e)
+
 on-class-mask :
     (f : ℕ → Bool) (n : ℕ) (k : Condition) (r : Record)
     → settledOnClass (mask f n) k r ≡ mask (λ v. f v && implies (isOnClass k) (implies (isOwn v k) (holds k r r))) n
@@ -112,12 +145,11 @@ module _ (condition : ℕ → Condition) (n b : ℕ) where
   class-none = sym (mask-all (λ v. every (λ i. classHolds b v (condition i)) 0) n (λ v. every-none (λ i. classHolds b v (condition i))))
 
   pub class-more :
-      (can q s : ℕ) (r : Record) → can ≡ classMask condition n q b
-      → r ≡ sampleOf b → s ≡ settledOnClass can (condition q) r
+      (can q s : ℕ) → can ≡ classMask condition n q b → s ≡ settledOnClass can (condition q) (sampleOf b)
       → s ≡ classMask condition n (q + 1) b
   unfolding classMask classHolds
-  class-more can q s r c e f =
+  class-more can q s c f =
       f
-      ∙ ap₂ (λ (x : ℕ) (y : Record). settledOnClass x (condition q) y) c e
+      ∙ ap (λ (x : ℕ). settledOnClass x (condition q) (sampleOf b)) c
       ∙ on-class-mask (λ v. every (λ i. classHolds b v (condition i)) q) n (condition q) (sampleOf b)
       ∙ mask-same (λ v. every (λ i. classHolds b v (condition i)) q && classHolds b v (condition q)) (λ v. every (λ i. classHolds b v (condition i)) (q + 1)) n (λ v l. sym (every-more (λ i. classHolds b v (condition i)) q))

@@ -9,7 +9,6 @@ use borrow.Author.Tests.{eq-eqb, ne-eqb, eqb-true, eqb-false}
 use lib.Bits.{bitAnd, and-le-r}
 use lib.Dec.{eqb, ltb}
 use lib.IntN.{pos}
-use lib.ListN.{getD}
 use lib.Pow.{pow-pos, pow-mono}
 use Rattle.numbers.specs.Numbers.{every, oneIf}
 use Rattle.numbers.specs.Bits.{bit, mask}
@@ -27,7 +26,7 @@ use Rattle.automaton.specs.Filtering.{implies}
 use Rattle.automaton.proofs.Membership.{clash}
 use Rattle.firing.specs.Plan.{classAttribute, otherOwn, isOther, otherMask, bothSides, conditionIn, othersIn}
 use Rattle.firing.specs.Plan.{Classed}
-use Rattle.firing.specs.Firing.{ownHolds, otherHolds, settled, settledOrder, valuesOf, settledBy}
+use Rattle.firing.specs.Firing.{ownHolds, otherHolds, settled, settledOrder, settledBy}
 use Rattle.firing.proofs.Own.{settled-holds, settled-fails, settled-mask}
 use Rattle.firing.proofs.Joins.{less-bit}
 
@@ -201,22 +200,6 @@ module _ (k : Condition) (is : isOther bothSides k ≡ true) (few : k .attribute
   sides-settled can x y r e f =
       order-settled k sides-own can x y r e
       (f ∙ ap raise (sym (compared-value k r (eqb-false (k .form) 0 sides-form))))
-
--- each attribute stands at its place among the values
-pub value-at : (r : Record) (a : ℕ) → a ≤ lastAttribute → getD (valuesOf r) a 0 ≡ raise (value a r)
-unfolding valuesOf
-value-at r a l =
-    by-order a 1
-    (λ h. let e : a ≡ 0 = omega arith in rw e)
-    (λ h. by-order a 2
-    (λ i. let e : a ≡ 1 = omega arith in rw e)
-    (λ i. by-order a 3
-    (λ j. let e : a ≡ 2 = omega arith in rw e)
-    (λ j. by-order a 4
-    (λ k. let e : a ≡ 3 = omega arith in rw e)
-    (λ k. by-order a 5
-    (λ m. let e : a ≡ 4 = omega arith in rw e)
-    (λ m. let e : a ≡ 5 = omega arith in rw e)))))
 
 -- ## A variable taken out of a mask
 

@@ -54,17 +54,6 @@ settledOrder can k x y =
       | false ↦ can - oneIf (bit can (k .variable)) * 2 ^ k .variable
     ]
 
--- a record's attributes, raised
-unfoldable pub valuesOf : Record → List ℕ
-valuesOf r =
-    raise (value 0 r)
-    ∷ raise (value 1 r)
-    ∷ raise (value 2 r)
-    ∷ raise (value 3 r)
-    ∷ raise (value 4 r)
-    ∷ raise (value 5 r)
-    ∷ []
-
 -- condition k of the plan holds of record i for v, if it is one of the kind that looks at the new event alone
 unfoldable pub otherHolds : List ℕ → List ℕ → ℕ → ℕ → ℕ → ℕ → Bool
 otherHolds plan bytes i kind v k = implies (isOther kind (conditionIn plan k)) (ownHolds plan bytes i v k)

@@ -1,9 +1,8 @@
 // Whether a step fires (Rule 5.2), in the parts that a pass settles one by one: a plan with the conditions on class
 // once a call, the new event's other own conditions once a record, the rest once a reading.
 ghost use mathlib.Core.Path.{_≡_};
-ghost use mathlib.Core.Bool.{true, false, not, _||_};
+ghost use mathlib.Core.Bool.{true, false, not};
 ghost use Prim.Native.Nat.{_+_, _-_, _*_, _/_, _%_, _^_, _<_, _≤_};
-ghost use lib.Dec.{eqb};
 ghost use lib.IntN.{pos};
 ghost use lib.ListN.{length};
 ghost use Rattle.numbers.specs.Numbers.{number, oneIf};
@@ -16,12 +15,11 @@ ghost use Rattle.slots.specs.Slots.{bindingOf, bindingsIn, countIn, heldIn};
 ghost use Rattle.firing.specs.Plan.{planRoom, joins, standing, variableMask, joinMask, onClass, failingOf};
 ghost use Rattle.firing.specs.Plan.{bothSides, otherOwn, sampleOf, typePlaces, classMask, otherMask};
 ghost use Rattle.firing.specs.Plan.{Tells, IsWord, Placed, IsPlan, Sound, Classed};
-ghost use Rattle.firing.specs.Firing.{settled, settledOnClass, settledOrder, valuesOf, settledBy, Settling};
+ghost use Rattle.firing.specs.Firing.{settledOnClass, settledOrder, settledBy, Settling};
 ghost use Rattle.firing.specs.Firing.{canBy, leavesBy, laterBy, otherOf, sideOf, pairMeets, joinsBy, agreesBy};
 ghost use Rattle.firing.specs.Firing.{Fit};
 use patterns::Condition;
 use patterns::Pattern;
-use records::Record;
 
 // ## The plan
 
@@ -37,8 +35,6 @@ const SLOT: u8 = 3;
 const AMOUNT: u8 = 4;
 
 const WAVE: u8 = 5;
-
-const ATTRIBUTES: usize = WAVE as usize + 1;
 
 // The kind of the conditions with one variable on both sides; below it each attribute is the kind of those that compare
 // it with the constant.
@@ -186,31 +182,6 @@ fn join_mask(p: Pattern, v: usize) -> u64
 
 // ## Conditions that look at one event alone
 
-// Whether a condition looks at one event alone.
-fn is_own(k: Condition) -> bool
-    ensures { λ r. ⌜ r ≡ eqb (k .form) 0 || eqb (k .variable) (k .variable2) ⌝ }
-{
-    if k.form == 0 {
-        return true;
-    }
-    k.variable == k.variable2
-}
-
-// The mask without the variable of a condition that looks at one event alone and fails of the record.
-fn settle(can: u64, word: u64, r: Record) -> u64
-    requires { ⌜ conditionOf word .operator ≤ lastOperator ⌝ }
-    ensures { λ s. ⌜ s ≡ settled can (conditionOf word) r ⌝ }
-{
-    let k = patterns::unpack_condition(word);
-    if !is_own(k) {
-        return can;
-    }
-    if patterns::condition_holds(k, r, r) {
-        return can;
-    }
-    numbers::without_bit(can, k.variable as usize)
-}
-
 // Whether a condition compares the class of its variable's event with the constant.
 fn is_on_class(form: u8, attribute: u8) -> bool
     ensures { λ r. ⌜ r ≡ onClass form attribute ⌝ }
@@ -221,31 +192,20 @@ fn is_on_class(form: u8, attribute: u8) -> bool
     attribute == CLASS
 }
 
-// The mask without the variable of condition i, if it is on class and fails of the record.
-fn settle_on_class(can: u64, p: Pattern, i: usize, r: Record) -> u64
-    requires { ⌜ InOrder p × (i < p .c) ⌝ }
-    ensures { λ s. ⌜ s ≡ settledOnClass can (conditionAt p i) r ⌝ }
+// The mask without the variable of condition i, if it is on class and fails of the events whose types share place b.
+fn settle_on_class(can: u64, p: Pattern, i: usize, b: usize) -> u64
+    requires { ⌜ InOrder p × (i < p .c) × (b < typePlaces) ⌝ }
+    ensures { λ s. ⌜ s ≡ settledOnClass can (conditionAt p i) (sampleOf b) ⌝ }
 {
     if !is_on_class(p.forms[i], p.attributes[i]) {
         return can;
     }
-    settle(can, word_at(p, i), r)
-}
-
-// An event of the first of the types that share place b.
-fn sample(b: usize) -> Record
-    requires { ⌜ b < typePlaces ⌝ }
-    ensures { λ r. ⌜ r ≡ sampleOf b ⌝ }
-{
-    Record {
-        kind: 0,
-        core: 0,
-        event_type: (TYPES_TOGETHER * b) as u8,
-        time: 0,
-        slot: 0,
-        amount: 0,
-        wave: 0,
+    let x = patterns::raised_class((TYPES_TOGETHER * b) as u8);
+    let y = patterns::raised_constant(CLASS, p.constants[i]);
+    if patterns::compare(p.operators[i], x, y) {
+        return can;
     }
+    numbers::without_bit(can, p.variables[i] as usize)
 }
 
 // The variables whose conditions on class hold of the events whose types share place b.
@@ -253,12 +213,11 @@ fn class_mask(p: Pattern, b: usize) -> u64
     requires { ⌜ InOrder p × (b < typePlaces) ⌝ }
     ensures { λ r. ⌜ r ≡ classMask (conditionAt p) (p .n) (p .c) b ⌝ }
 {
-    let r = sample(b);
     let c = p.c;
     let mut can = numbers::weight(p.n) - 1;
     let mut i = 0;
     while i < c {
-        can = settle_on_class(can, p, i, r);
+        can = settle_on_class(can, p, i, b);
         i += 1;
     }
     can
@@ -387,7 +346,7 @@ fn settle_attribute(
     if rest == 0 {
         return can;
     }
-    let x = patterns::raised_value(attribute, records::unpack(block, i));
+    let x = patterns::raised_value(attribute, block, i);
     let mut left = can;
     while rest != 0 {
         let at = numbers::lowest_bit(rest);
@@ -404,22 +363,6 @@ fn settle_attribute(
     left
 }
 
-// The attributes of record i, raised.
-fn values_of(block: &[u8], i: usize) -> [u64; ATTRIBUTES]
-    requires { ⌜ recordBytes * i + recordBytes ≤ length (now block) ⌝ }
-    ensures { λ r. ⌜ r ≡ valuesOf (recordAt (now (block .entry)) i) ⌝ }
-{
-    let r = records::unpack(block, i);
-    [
-        patterns::raised_value(CORE, r),
-        patterns::raised_value(TYPE, r),
-        patterns::raised_value(CLASS, r),
-        patterns::raised_value(SLOT, r),
-        patterns::raised_value(AMOUNT, r),
-        patterns::raised_value(WAVE, r),
-    ]
-}
-
 // The variables of the mask whose conditions with one variable on both sides hold of record i.
 fn settle_both(plan: &[u64; PLAN_ROOM], n: usize, c: usize, can: u64, block: &[u8], i: usize) -> u64
     requires { ⌜ Settling (now plan) n c can (now block) i ⌝ }
@@ -429,14 +372,14 @@ fn settle_both(plan: &[u64; PLAN_ROOM], n: usize, c: usize, can: u64, block: &[u
     if rest == 0 {
         return can;
     }
-    let values = values_of(block, i);
     let mut left = can;
     while rest != 0 {
         let at = numbers::lowest_bit(rest);
         let word = plan[at];
         let k = patterns::unpack_condition(word);
-        let x = values[k.attribute as usize];
-        left = settle_order(left, word, x, values[k.attribute2 as usize]);
+        let x = patterns::raised_value(k.attribute, block, i);
+        let y = patterns::raised_value(k.attribute2, block, i);
+        left = settle_order(left, word, x, y);
         rest = numbers::without_lowest(rest);
     }
     left
@@ -450,7 +393,7 @@ pub fn can_fire(plan: &[u64; PLAN_ROOM], n: usize, c: usize, block: &[u8], i: us
         × (recordBytes * i + recordBytes ≤ length (now block)) ⌝ }
     ensures { λ r. ⌜ (r ≡ canBy (now (plan .entry)) n c (now (block .entry)) i) × (r < 2 ^ n) ⌝ }
 {
-    let event_type = numbers::byte(block, records::RECORD_BYTES * i + 1) as usize;
+    let event_type = records::type_at(block, i) as usize;
     let by_class = plan[FIRST_CLASS + event_type / TYPES_TOGETHER];
     let by_type = settle_attribute(plan, n, c, by_class, TYPE, block, i);
     if by_type == 0 {
@@ -498,9 +441,9 @@ fn new_value(k: Condition, v: usize, block: &[u8], i: usize) -> u64
     ensures { λ x. ⌜ x ≡ raise (value (sideOf v k) (recordAt (now (block .entry)) i)) ⌝ }
 {
     if k.variable as usize == v {
-        return patterns::raised_value(k.attribute, records::unpack(block, i));
+        return patterns::raised_value(k.attribute, block, i);
     }
-    patterns::raised_value(k.attribute2, records::unpack(block, i))
+    patterns::raised_value(k.attribute2, block, i)
 }
 
 // Whether the variable that a condition names beside v is bound.
@@ -534,13 +477,13 @@ fn pair_holds(
         if u != k.variable2 as usize {
             return true;
         }
-        let y = patterns::raised_value(k.attribute2, records::unpack(block, at));
+        let y = patterns::raised_value(k.attribute2, block, at);
         return fails(word, x, y) == 0;
     }
     if u != k.variable as usize {
         return true;
     }
-    let y = patterns::raised_value(k.attribute, records::unpack(block, at));
+    let y = patterns::raised_value(k.attribute, block, at);
     fails(word, y, x) == 0
 }
 

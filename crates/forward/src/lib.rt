@@ -84,7 +84,7 @@ fn is_event(block: &[u8], i: usize) -> bool
     requires { ⌜ recordBytes * i + recordBytes ≤ length (now block) ⌝ }
     ensures { λ r. ⌜ r ≡ isEventBy (now (block .entry)) i ⌝ }
 {
-    records::unpack(block, i).kind == records::EVENT
+    records::kind_at(block, i) == records::EVENT
 }
 
 // How many of the readings close at record i: at a gap all, otherwise the late ones.

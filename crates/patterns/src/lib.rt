@@ -5,13 +5,13 @@ ghost use lib.Dec.{eqb};
 ghost use lib.IntN.{pos};
 ghost use lib.ListN.{length};
 ghost use Rattle.numbers.specs.Numbers.{oneIf, first};
+ghost use Rattle.records.specs.Records.{recordBytes, recordAt, classOf};
 ghost use Rattle.patterns.specs.Patterns.{headerBytes, mostVariables, mostConditions, conditionBytes, header};
 ghost use Rattle.patterns.specs.Patterns.{headerBroken, variableCount, conditionCount, setNumber, groupFlag};
 ghost use Rattle.patterns.specs.Patterns.{members, leastSet, greatestSet, variableBroken, conditionOf};
 ghost use Rattle.patterns.specs.Patterns.{conditionWord, conditionBroken, formBroken, lastOperator};
 ghost use Rattle.patterns.specs.Checked.{patternUpTo, withCondition, blank, patternAnswer, refused};
-ghost use Rattle.patterns.specs.Comparison.{signed, value, constantValue, orders, orderOf, meets, holds, raise};
-use records::Record;
+ghost use Rattle.patterns.specs.Comparison.{signed, value, constantValue, orders, orderOf, meets, raise};
 
 const EDITION: u64 = 1;
 
@@ -423,26 +423,34 @@ fn raised_signed(word: u32) -> u64
     (word as u64 + RAISE) % 4294967296
 }
 
-// An attribute of a record, raised.
-pub fn raised_value(attribute: u8, r: Record) -> u64
-    ensures { λ raised. ⌜ raised ≡ raise (value attribute r) ⌝ }
+// The class of an event type, raised.
+pub fn raised_class(event_type: u8) -> u64
+    ensures { λ r. ⌜ r ≡ raise (pos (classOf «event_type»)) ⌝ }
+{
+    records::class(event_type) as u64 + RAISE
+}
+
+// An attribute of record i, raised: the one field that it comes from is fetched, and nothing else of the record.
+pub fn raised_value(attribute: u8, block: &[u8], i: usize) -> u64
+    requires { ⌜ recordBytes * i + recordBytes ≤ length (now block) ⌝ }
+    ensures { λ r. ⌜ r ≡ raise (value attribute (recordAt (now (block .entry)) i)) ⌝ }
 {
     if attribute == 0 {
-        return r.core as u64 + RAISE;
+        return records::core_at(block, i) as u64 + RAISE;
     }
     if attribute == 1 {
-        return r.event_type as u64 + RAISE;
+        return records::type_at(block, i) as u64 + RAISE;
     }
     if attribute == 2 {
-        return records::class(r.event_type) as u64 + RAISE;
+        return raised_class(records::type_at(block, i));
     }
     if attribute == 3 {
-        return r.slot as u64 + RAISE;
+        return records::slot_at(block, i) as u64 + RAISE;
     }
     if attribute == 4 {
-        return raised_signed(r.amount);
+        return raised_signed(records::amount_at(block, i));
     }
-    r.wave as u64 + RAISE
+    records::wave_at(block, i) as u64 + RAISE
 }
 
 // A condition's constant, raised: it has a sign where the attribute is amount (Rule 3.1).
@@ -476,16 +484,4 @@ pub fn compare(operator: u8, x: u64, y: u64) -> bool
     ensures { λ r. ⌜ r ≡ meets operator (orderOf (pos x) (pos y)) ⌝ }
 {
     order_meets(operator as usize, order(x, y))
-}
-
-// Whether condition k holds of a record for its variable and a record for its second variable.
-pub fn condition_holds(k: Condition, first: Record, second: Record) -> bool
-    requires { ⌜ k .operator ≤ lastOperator ⌝ }
-    ensures { λ r. ⌜ r ≡ holds k first second ⌝ }
-{
-    let x = raised_value(k.attribute, first);
-    if k.form == 0 {
-        return compare(k.operator, x, raised_constant(k.attribute, k.constant));
-    }
-    compare(k.operator, x, raised_value(k.attribute2, second))
 }

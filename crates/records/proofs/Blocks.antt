@@ -9,11 +9,25 @@ use borrow.Author.Tests.{lt-ltb, le-ltb, le-leb, lt-leb, eq-eqb, ne-eqb, ltb-tru
 use lib.Dec.{eqb}
 use lib.ListN.{length}
 use Rattle.records.specs.declared.Answer.{Answer}
-use Rattle.records.specs.Records.{recordBytes, recordAt, recordCount}
-use Rattle.records.specs.Blocks.{mostRecords, refused, misfit, broken, late, recordRefusal, bad, firstBad}
-use Rattle.records.specs.Blocks.{blockAnswer, InOrder}
+use Rattle.records.specs.declared.Record.{Record}
+use Rattle.records.specs.Records.{recordBytes, recordAt, gapKind, recordCount}
+use Rattle.records.specs.Blocks.{mostRecords, refused, misfit, gapBroken, broken, late, recordRefusal, bad}
+use Rattle.records.specs.Blocks.{firstBad, blockAnswer, InOrder}
 use Rattle.numbers.proofs.Cases.{by-test, by-order}
 use Rattle.numbers.proofs.First.{first-at, first-none, first-fails, first-passes}
+
+module _ (r : Record) where
+  pub broken-kind : gapKind < r .kind → broken r ≡ true
+  unfolding broken
+  broken-kind l = rw (lt-ltb gapKind (r .kind) l)
+
+  pub broken-event : r .kind ≤ gapKind → (r .kind ≡ gapKind → ⊥) → broken r ≡ false
+  unfolding broken
+  broken-event l other = rw (le-ltb gapKind (r .kind) l, ne-eqb (r .kind) gapKind other)
+
+  pub broken-gap : r .kind ≡ gapKind → broken r ≡ gapBroken r
+  unfolding broken
+  broken-gap e = rw (le-ltb gapKind (r .kind) (omega arith), eq-eqb (r .kind) gapKind e)
 
 module _ (bytes : List ℕ) where
   pub refusal-6 : (i : ℕ) → broken (recordAt bytes i) ≡ true → recordRefusal bytes i ≡ 6

@@ -4,7 +4,7 @@ ghost use mathlib.Core.Bool.{true, false};
 ghost use Prim.Native.Nat.{_+_, _*_, _<_, _≤_};
 ghost use lib.ListN.{length};
 ghost use Rattle.records.specs.Records.{recordBytes, recordAt, classOf};
-ghost use Rattle.records.specs.Blocks.{broken, recordRefusal, blockAnswer, refused};
+ghost use Rattle.records.specs.Blocks.{gapBroken, broken, recordRefusal, blockAnswer, refused};
 
 pub const RECORD_BYTES: usize = 16;
 
@@ -47,7 +47,30 @@ pub fn refusal(code: u8, place: u32) -> Answer
     }
 }
 
-// The time of record i.
+// ## Fields
+
+// Each field of record i is fetched by itself; no other bytes of the record are looked at.
+pub fn kind_at(block: &[u8], i: usize) -> u8
+    requires { ⌜ recordBytes * i + recordBytes ≤ length (now block) ⌝ }
+    ensures { λ r. ⌜ r ≡ recordAt (now (block .entry)) i .kind ⌝ }
+{
+    numbers::byte(block, RECORD_BYTES * i) >> 6
+}
+
+pub fn core_at(block: &[u8], i: usize) -> u8
+    requires { ⌜ recordBytes * i + recordBytes ≤ length (now block) ⌝ }
+    ensures { λ r. ⌜ r ≡ recordAt (now (block .entry)) i .core ⌝ }
+{
+    numbers::byte(block, RECORD_BYTES * i) % 64
+}
+
+pub fn type_at(block: &[u8], i: usize) -> u8
+    requires { ⌜ recordBytes * i + recordBytes ≤ length (now block) ⌝ }
+    ensures { λ r. ⌜ r ≡ recordAt (now (block .entry)) i .«event_type» ⌝ }
+{
+    numbers::byte(block, RECORD_BYTES * i + 1)
+}
+
 pub fn time_at(block: &[u8], i: usize) -> u64
     requires { ⌜ recordBytes * i + recordBytes ≤ length (now block) ⌝ }
     ensures { λ r. ⌜ r ≡ recordAt (now (block .entry)) i .time ⌝ }
@@ -58,21 +81,40 @@ pub fn time_at(block: &[u8], i: usize) -> u64
     high * 4294967296 + low
 }
 
-// Record i, unpacked.
-pub fn unpack(block: &[u8], i: usize) -> Record
+pub fn slot_at(block: &[u8], i: usize) -> u32
+    requires { ⌜ recordBytes * i + recordBytes ≤ length (now block) ⌝ }
+    ensures { λ r. ⌜ r ≡ recordAt (now (block .entry)) i .slot ⌝ }
+{
+    numbers::number4(block, RECORD_BYTES * i + 7)
+}
+
+pub fn amount_at(block: &[u8], i: usize) -> u32
+    requires { ⌜ recordBytes * i + recordBytes ≤ length (now block) ⌝ }
+    ensures { λ r. ⌜ r ≡ recordAt (now (block .entry)) i .amount ⌝ }
+{
+    numbers::number4(block, RECORD_BYTES * i + 11)
+}
+
+pub fn wave_at(block: &[u8], i: usize) -> u8
+    requires { ⌜ recordBytes * i + recordBytes ≤ length (now block) ⌝ }
+    ensures { λ r. ⌜ r ≡ recordAt (now (block .entry)) i .wave ⌝ }
+{
+    numbers::byte(block, RECORD_BYTES * i + 15)
+}
+
+// Record i, unpacked, for the check of a gap, which judges all of it.
+fn unpack(block: &[u8], i: usize) -> Record
     requires { ⌜ recordBytes * i + recordBytes ≤ length (now block) ⌝ }
     ensures { λ r. ⌜ r ≡ recordAt (now (block .entry)) i ⌝ }
 {
-    let at = RECORD_BYTES * i;
-    let head = numbers::byte(block, at);
     Record {
-        kind: head >> 6,
-        core: head % 64,
-        event_type: numbers::byte(block, at + 1),
+        kind: kind_at(block, i),
+        core: core_at(block, i),
+        event_type: type_at(block, i),
         time: time_at(block, i),
-        slot: numbers::number4(block, at + 7),
-        amount: numbers::number4(block, at + 11),
-        wave: numbers::byte(block, at + 15),
+        slot: slot_at(block, i),
+        amount: amount_at(block, i),
+        wave: wave_at(block, i),
     }
 }
 
@@ -90,16 +132,10 @@ pub fn class(event_type: u8) -> u8
     }
 }
 
-// Refusal 6.
-fn is_broken(r: Record) -> bool
-    ensures { λ b. ⌜ b ≡ broken r ⌝ }
+// Whether a gap has something of an event, or tells of no loss.
+fn is_gap_broken(r: Record) -> bool
+    ensures { λ b. ⌜ b ≡ gapBroken r ⌝ }
 {
-    if GAP < r.kind {
-        return true;
-    }
-    if r.kind != GAP {
-        return false;
-    }
     if r.core != 0 {
         return true;
     }
@@ -115,19 +151,33 @@ fn is_broken(r: Record) -> bool
     r.slot == 0
 }
 
+// Refusal 6. Of an event nothing else is judged here; of a gap, all of it.
+fn is_broken(block: &[u8], i: usize) -> bool
+    requires { ⌜ recordBytes * i + recordBytes ≤ length (now block) ⌝ }
+    ensures { λ b. ⌜ b ≡ broken (recordAt (now (block .entry)) i) ⌝ }
+{
+    let kind = kind_at(block, i);
+    if GAP < kind {
+        return true;
+    }
+    if kind != GAP {
+        return false;
+    }
+    is_gap_broken(unpack(block, i))
+}
+
 // What record i is refused by: 6, 7 or 0 for nothing.
 fn refusal_of(block: &[u8], i: usize) -> u8
     requires { ⌜ recordBytes * i + recordBytes ≤ length (now block) ⌝ }
     ensures { λ r. ⌜ r ≡ recordRefusal (now (block .entry)) i ⌝ }
 {
-    let r = unpack(block, i);
-    if is_broken(r) {
+    if is_broken(block, i) {
         return 6;
     }
     if i == 0 {
         return 0;
     }
-    if r.time <= time_at(block, i - 1) {
+    if time_at(block, i) <= time_at(block, i - 1) {
         return 7;
     }
     0

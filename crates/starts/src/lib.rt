@@ -353,14 +353,13 @@ fn window_at(block: &[u8], duration: u64, i: usize, opened: usize) -> Window
     let count = block.len() / records::RECORD_BYTES;
     let mut k = larger(i + 1, opened);
     while k < count {
-        let r = records::unpack(block, k);
-        if r.kind != records::EVENT {
+        if records::kind_at(block, k) != records::EVENT {
             return Window {
                 until: k,
                 mark: slots::GAP_MARK,
             };
         }
-        if is_past(first, duration, r.time) {
+        if is_past(first, duration, records::time_at(block, k)) {
             return Window {
                 until: k,
                 mark: slots::PAST_MARK,
@@ -438,7 +437,7 @@ fn each_start(
             i = reach::next_can(cans, first, i + 1, count);
             continue;
         }
-        if records::unpack(block, i).kind != records::EVENT {
+        if records::kind_at(block, i) != records::EVENT {
             i += 1;
             continue;
         }

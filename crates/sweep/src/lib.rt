@@ -415,7 +415,7 @@ pub fn sweep(
     let mut low = 0;
     let mut j = 0;
     while j < count {
-        if records::unpack(block, j).kind != records::EVENT {
+        if records::kind_at(block, j) != records::EVENT {
             starts = no_starts();
             j += 1;
             continue;

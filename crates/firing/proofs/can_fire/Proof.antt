@@ -2,7 +2,6 @@
 use mathlib.Core.Path.{_≡_, _∙_, sym, ap}
 use Prim.Native.Nat.{ℕ, _/_}
 use native.Mathlib.Omega.{arith}
-use Rattle.records.specs.Records.{recordAt}
 use lib.Pow.{pow-pos}
 use Rattle.firing.specs.Plan.{classIn, typesTogether, bothSides}
 use Rattle.firing.specs.Firing.{canBy, settledBy}
@@ -10,14 +9,8 @@ use Rattle.firing.proofs.Classes.{class-inside, settled-inside, all-set
 use Rattle.firing.proofs.can_fire.Statement.{statement}
 use Rattle.firing.proofs.can_fire.Tie as tie
 
-mul-byte : tie.Need-mul-byte
-mul-byte c = omega arith
-
-add-byte : tie.Need-add-byte
-add-byte c = omega arith
-
-byte-requires : tie.Need-byte-requires
-byte-requires c κs = omega arith
+type-at-requires : tie.Need-type-at-requires
+type-at-requires c κs = omega arith
 
 cast-event-type : tie.Need-cast-event-type
 cast-event-type c = omega arith
@@ -36,17 +29,16 @@ settle-attribute-requires c κs =
     let st = c .before .before .before in
     let a = st .args in
     let p = st .pre in
-    let inside = class-inside (a .plan .now) (a .block .now) (a .i) (a .n) (a .c) (p .1) (c .before .byte .result / typesTogether) (omega arith) in
+    let inside = class-inside (a .plan .now) (a .block .now) (a .i) (a .n) (a .c) (p .1) (c .before .type-at .result / typesTogether) (omega arith) in
     (record { sound = p .0; classed = p .1; variables = p .2; conditions = p .3; inside = inside; here = p .4 }, omega arith)
 
 returns : tie.Need-returns
-unfolding recordAt
 returns c =
     let st = c .before .before .before .before .before in
     let a = st .args in
-    let t = c .before .before .before .byte .result in
+    let t = c .before .before .before .type-at .result in
     let typed = c .before .settle-attribute in
-    let all = all-settled (a .plan .now) (a .block .now) (a .i) (a .n) (a .c) (st .pre .0) (st .pre .1) (st .pre .3) t (omega arith) (c .before .before .before .byte .ensures) in
+    let all = all-settled (a .plan .now) (a .block .now) (a .i) (a .n) (a .c) (st .pre .0) (st .pre .1) (st .pre .3) t (omega arith) (c .before .before .before .type-at .ensures) in
     let none = none-settled (a .plan .now) (a .block .now) (a .i) (a .n) (a .c) (settledBy (a .plan .now) (a .n) (a .c) (a .block .now) (a .i) 1 (classIn (a .plan .now) (t / typesTogether))) (sym (typed .ensures) ∙ c .if1 .taken) in
     (sym none ∙ all, pow-pos (a .n))
 
@@ -86,13 +78,12 @@ settle-both-requires c κs =
     record { sound = p .0; classed = p .1; variables = p .2; conditions = p .3; inside = rw (c .settle-attribute5 .ensures) (settled-inside (a .plan .now) (a .block .now) (a .i) (a .n) (a .c) _ _); here = p .4 }
 
 returns-2 : tie.Need-returns-2
-unfolding recordAt
 returns-2 c =
     let st = c .before .before .before .before .before .before .before .before .before .before in
     let a = st .args in
-    let t = c .before .before .before .before .before .before .before .before .byte .result in
+    let t = c .before .before .before .before .before .before .before .before .type-at .result in
     let settled : ℕ → ℕ → ℕ = settledBy (a .plan .now) (a .n) (a .c) (a .block .now) (a .i) in
-    let all = all-settled (a .plan .now) (a .block .now) (a .i) (a .n) (a .c) (st .pre .0) (st .pre .1) (st .pre .3) t (omega arith) (c .before .before .before .before .before .before .before .before .byte .ensures) in
+    let all = all-settled (a .plan .now) (a .block .now) (a .i) (a .n) (a .c) (st .pre .0) (st .pre .1) (st .pre .3) t (omega arith) (c .before .before .before .before .before .before .before .before .type-at .ensures) in
     let e : c .settle-both .result ≡ canBy (a .plan .now) (a .n) (a .c) (a .block .now) (a .i) =
     c .settle-both .ensures
     ∙ ap (λ (x : ℕ). settled bothSides x) (c .before .settle-attribute5 .ensures)
@@ -107,9 +98,7 @@ pub can-fire-spec : {M : Type 1} → statement M
 can-fire-spec =
     tie.close
     (tie.spec
-    mul-byte
-    add-byte
-    byte-requires
+    type-at-requires
     cast-event-type
     add-by-class
     mul-by-class

@@ -12,27 +12,24 @@ use Rattle.firing.proofs.class_mask.Statement.{statement}
 use Rattle.firing.proofs.class_mask.Tie as tie
 
 abbrev Inv-loop : tie.InvT-loop
-Inv-loop p b r c can₀ i₀ can i = (i ≤ c) × (can ≡ classMask (conditionAt p) (p .n) i b)
+Inv-loop p b c can₀ i₀ can i = (i ≤ c) × (can ≡ classMask (conditionAt p) (p .n) i b)
 
 abbrev μ-loop : tie.MeasureT-loop
-μ-loop p b r c can₀ i₀ can i = c - i
-
-sample-requires : tie.Need-sample-requires Inv-loop μ-loop
-sample-requires c κs = search needs
+μ-loop p b c can₀ i₀ can i = c - i
 
 weight-requires : tie.Need-weight-requires Inv-loop μ-loop
-weight-requires c κs = let few = c .before .pre .0 .few in omega arith
+weight-requires c κs = let few = c .pre .0 .few in omega arith
 
 sub-can : tie.Need-sub-can Inv-loop μ-loop
-sub-can c = omega (arith, pow-pos (c .before .before .args .p .n))
+sub-can c = omega (arith, pow-pos (c .before .args .p .n))
 
 loop-holds : tie.Need-loop-holds Inv-loop μ-loop
 loop-holds c =
-    let a = c .before .before .args in
+    let a = c .before .args in
     (search needs, ap (λ (x : ℕ). x - 1) (c .weight .ensures) ∙ class-none (conditionAt (a .p)) (a .p .n) (a .b))
 
 settle-on-class-requires : tie.Need-settle-on-class-requires Inv-loop μ-loop
-settle-on-class-requires c κs = (c .before .before .before .before .pre .0, omega arith)
+settle-on-class-requires c κs = let p = c .before .before .before .pre in (p .0, omega arith, p .1)
 
 add-i : tie.Need-add-i Inv-loop μ-loop
 add-i c = omega arith
@@ -42,14 +39,13 @@ loop-less c = omega arith
 
 loop-again : tie.Need-loop-again Inv-loop μ-loop
 loop-again c =
-    let a = c .before .before .before .before .before .args in
+    let a = c .before .before .before .before .args in
     let l = c .before .before .loop in
-    let sampled = c .before .before .before .before .sample in
-    (omega arith, class-more (conditionAt (a .p)) (a .p .n) (a .b) (l .can) (l .i) (c .settle-on-class .result) (sampled .result) (l .inv .1) (sampled .ensures) (c .settle-on-class .ensures))
+    (omega arith, class-more (conditionAt (a .p)) (a .p .n) (a .b) (l .can) (l .i) (c .settle-on-class .result) (l .inv .1) (c .settle-on-class .ensures))
 
 returns : tie.Need-returns Inv-loop μ-loop
 returns c =
-    let a = c .before .before .before .before .args in
+    let a = c .before .before .before .args in
     let l = c .before .loop in
     let e : l .i ≡ a .p .c = omega arith in
     l .inv .1 ∙ ap (λ (q : ℕ). classMask (conditionAt (a .p)) (a .p .n) q (a .b)) e
@@ -60,7 +56,6 @@ class-mask-spec =
     (tie.spec
     Inv-loop
     μ-loop
-    sample-requires
     weight-requires
     sub-can
     loop-holds

@@ -40,26 +40,23 @@ returns c =
     let other : eqb (b .variable) (a .k .variable2) ≡ false = ne-eqb _ _ (λ e. c .if2 .taken (c .before .before .before .before .before .binding-variable .ensures ∙ e)) in
     sym (meets-first (a .block .now) (a .v) (a .k) b (a .x) (eq-eqb _ _ (c .before .before .if1 .taken)) ∙ rw other)
 
-unpack-requires : tie.Need-unpack-requires
-unpack-requires c κs = search needs
-
 raised-value-requires : tie.Need-raised-value-requires
 raised-value-requires c κs = search needs
 
 fails-requires : tie.Need-fails-requires
-fails-requires c κs = c .before .before .before .before .before .before .before .before .before .before .pre .0
+fails-requires c κs = c .before .before .before .before .before .before .before .before .before .pre .0
 
 returns-2 : tie.Need-returns-2
 returns-2 c =
-    let a = c .before .before .before .before .before .before .before .before .before .before .before .args in
+    let a = c .before .before .before .before .before .before .before .before .before .before .args in
     let b = bindingAt (a .slot .now) (a .j) in
-    let same : eqb (b .variable) (a .k .variable2) ≡ true = eq-eqb _ _ (sym (c .before .before .before .before .before .before .before .before .binding-variable .ensures) ∙ c .before .before .before .if2 .left) in
-    let is = c .before .before .before .before .before .before .before .before .before .before .before .pre .1 in
+    let same : eqb (b .variable) (a .k .variable2) ≡ true = eq-eqb _ _ (sym (c .before .before .before .before .before .before .before .binding-variable .ensures) ∙ c .before .before .if2 .left) in
+    let is = c .before .before .before .before .before .before .before .before .before .before .pre .1 in
     let found : c .before .raised-value .result ≡ raise (value (a .k .attribute2) (recordAt (a .block .now) (b .at))) = cc in
     ap (λ (n : ℕ). eqb n 0) (c .fails .ensures)
     ∙ none-fails (meets (conditionOf (a .word) .operator) (orderOf (pos (a .x)) (pos (c .before .raised-value .result))))
     ∙ ap₂ (λ (q : Condition) (y : ℕ). meets (q .operator) (orderOf (pos (a .x)) (pos y))) (sym is) found
-    ∙ sym (meets-first (a .block .now) (a .v) (a .k) b (a .x) (eq-eqb _ _ (c .before .before .before .before .before .if1 .taken)) ∙ rw same)
+    ∙ sym (meets-first (a .block .now) (a .v) (a .k) b (a .x) (eq-eqb _ _ (c .before .before .before .before .if1 .taken)) ∙ rw same)
 
 cast-if3 : tie.Need-cast-if3
 cast-if3 c = search needs
@@ -71,26 +68,23 @@ returns-3 c =
     let other : eqb (b .variable) (a .k .variable) ≡ false = ne-eqb _ _ (λ e. c .if3 .taken (c .before .before .before .before .before .binding-variable .ensures ∙ e)) in
     sym (meets-second (a .block .now) (a .v) (a .k) b (a .x) (ne-eqb _ _ (c .before .before .if1 .left)) ∙ rw other)
 
-unpack-requires-2 : tie.Need-unpack-requires-2
-unpack-requires-2 c κs = search needs
-
 raised-value-requires-2 : tie.Need-raised-value-requires-2
 raised-value-requires-2 c κs = search needs
 
 fails-requires-2 : tie.Need-fails-requires-2
-fails-requires-2 c κs = c .before .before .before .before .before .before .before .before .before .before .pre .0
+fails-requires-2 c κs = c .before .before .before .before .before .before .before .before .before .pre .0
 
 returns-4 : tie.Need-returns-4
 returns-4 c =
-    let a = c .before .before .before .before .before .before .before .before .before .before .before .args in
+    let a = c .before .before .before .before .before .before .before .before .before .before .args in
     let b = bindingAt (a .slot .now) (a .j) in
-    let same : eqb (b .variable) (a .k .variable) ≡ true = eq-eqb _ _ (sym (c .before .before .before .before .before .before .before .before .binding-variable .ensures) ∙ c .before .before .before .if3 .left) in
-    let is = c .before .before .before .before .before .before .before .before .before .before .before .pre .1 in
+    let same : eqb (b .variable) (a .k .variable) ≡ true = eq-eqb _ _ (sym (c .before .before .before .before .before .before .before .binding-variable .ensures) ∙ c .before .before .if3 .left) in
+    let is = c .before .before .before .before .before .before .before .before .before .before .pre .1 in
     let found : c .before .raised-value2 .result ≡ raise (value (a .k .attribute) (recordAt (a .block .now) (b .at))) = cc in
     ap (λ (n : ℕ). eqb n 0) (c .fails2 .ensures)
     ∙ none-fails (meets (conditionOf (a .word) .operator) (orderOf (pos (c .before .raised-value2 .result)) (pos (a .x))))
     ∙ ap₂ (λ (q : Condition) (y : ℕ). meets (q .operator) (orderOf (pos y) (pos (a .x)))) (sym is) found
-    ∙ sym (meets-second (a .block .now) (a .v) (a .k) b (a .x) (ne-eqb _ _ (c .before .before .before .before .before .if1 .left)) ∙ rw same)
+    ∙ sym (meets-second (a .block .now) (a .v) (a .k) b (a .x) (ne-eqb _ _ (c .before .before .before .before .if1 .left)) ∙ rw same)
 
 pub pair-holds-spec : {M : Type 1} → statement M
 pair-holds-spec =
@@ -101,13 +95,11 @@ pair-holds-spec =
     cast-if1
     cast-if2
     returns
-    unpack-requires
     raised-value-requires
     fails-requires
     returns-2
     cast-if3
     returns-3
-    unpack-requires-2
     raised-value-requires-2
     fails-requires-2
     returns-4)

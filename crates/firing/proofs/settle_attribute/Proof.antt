@@ -4,10 +4,9 @@ use mathlib.Core.Path.{_≡_, _∙_, ap}
 use Prim.Native.Nat.{_^_, _<_}
 use native.Mathlib.Omega.{arith}
 use lib.Pow.{pow-pos}
-use Rattle.records.specs.declared.Record.{Record}
 use Rattle.records.specs.Records.{recordAt}
 use Rattle.patterns.specs.declared.Condition.{Condition}
-use Rattle.patterns.specs.Comparison.{value, raise, constantValue}
+use Rattle.patterns.specs.Comparison.{raise, constantValue}
 use Rattle.firing.specs.Plan.{conditionIn, othersIn}
 use Rattle.firing.proofs.Joins.{weight-le}
 use Rattle.firing.proofs.Settling.{OfKind, bit-below, leftBy, others-bound, others-kind, left-first, left-all}
@@ -40,15 +39,12 @@ returns c =
     left-first (a .plan .now) (a .block .now) (a .i) (a .n) (a .c) (a .attribute) (a .can) (p .classed) (omega arith) (p .inside)
     ∙ left-all (a .plan .now) (a .block .now) (a .i) (a .n) (a .c) (a .attribute) (a .can) (othersIn (a .plan .now) (a .attribute)) (c .if1 .taken)
 
-unpack-requires : tie.Need-unpack-requires Inv-loop μ-loop
-unpack-requires c κs = c .before .before .before .pre .0 .here
-
 raised-value-requires : tie.Need-raised-value-requires Inv-loop μ-loop
-raised-value-requires c κs = search needs
+raised-value-requires c κs = c .before .before .before .pre .0 .here
 
 loop-holds : tie.Need-loop-holds Inv-loop μ-loop
 loop-holds c =
-    let st = c .before .before .before .before .before in
+    let st = c .before .before .before .before in
     let a = st .args in
     let p = st .pre .0 in (
       others-bound (a .plan .now) (a .block .now) (a .i) (a .n) (a .c) (a .attribute) (a .can) (p .classed) (omega arith),
@@ -63,7 +59,7 @@ mul-word : tie.Need-mul-word Inv-loop μ-loop
 mul-word c = let s = c .lowest-bit .ensures .small in omega arith
 
 element-copy-out-word : tie.Need-element-copy-out-word Inv-loop μ-loop
-element-copy-out-word c = let s = c .lowest-bit .ensures .small in let size = c .before .before .before .before .before .before .before .before .pre .0 .sound .size in omega arith
+element-copy-out-word c = let s = c .lowest-bit .ensures .small in let size = c .before .before .before .before .before .before .before .pre .0 .sound .size in omega arith
 
 unpack-condition-requires : tie.Need-unpack-condition-requires Inv-loop μ-loop
 unpack-condition-requires c κs = search needs
@@ -73,7 +69,7 @@ raised-constant-requires c κs = search needs
 
 settle-order-requires : tie.Need-settle-order-requires Inv-loop μ-loop
 settle-order-requires c κs =
-    let st = c .before .before .before .before .before .before .before .before .before .before .before in
+    let st = c .before .before .before .before .before .before .before .before .before .before in
     let p = st .pre .0 in
     let l = c .before .before .before .before .before .loop in
     let low = c .before .before .before .lowest-bit in
@@ -92,26 +88,25 @@ loop-less c =
 
 loop-again : tie.Need-loop-again Inv-loop μ-loop
 loop-again c =
-    let st = c .before .before .before .before .before .before .before .before .before .before .before .before .before in
+    let st = c .before .before .before .before .before .before .before .before .before .before .before .before in
     let a = st .args in
     let l = c .before .before .before .before .before .before .before .loop in
     let low = c .before .before .before .before .before .lowest-bit in
     let k = conditionIn (a .plan .now) (low .result) in
     let seen = c .before .before .before .before .before .before .before .before .raised-value in
-    let read = c .before .before .before .before .before .before .before .before .before .unpack in
     let constant = c .before .before .raised-constant in
     let taken = c .before .settle-order in
     left-turn (a .plan .now) (a .block .now) (a .i) (a .n) (a .c) (a .attribute) (a .can) (l .rest) (low .result) (l .inv .0) (low .ensures .here) (l .inv .1)
     (l .left) (taken .result) (c .without-lowest .result) (l .inv .2)
     (taken .ensures
     ∙ value-settled (a .attribute) k (st .pre .1) (l .inv .1 .each (low .result) (low .ensures .here)) (l .left) (seen .result) (constant .result) (recordAt (a .block .now) (a .i))
-    (seen .ensures ∙ ap (λ (r : Record). raise (value (a .attribute) r)) (read .ensures))
+    (seen .ensures)
     (constant .ensures ∙ ap (λ (j : Condition). raise (constantValue (a .attribute) (j .constant))) (c .before .before .before .unpack-condition .ensures)))
     (c .without-lowest .ensures (low .result) (low .ensures))
 
 returns-2 : tie.Need-returns-2 Inv-loop μ-loop
 returns-2 c =
-    let a = c .before .before .before .before .before .before .before .args in
+    let a = c .before .before .before .before .before .before .args in
     let l = c .before .loop in
     l .inv .2 ∙ left-all (a .plan .now) (a .block .now) (a .i) (a .n) (a .c) (a .attribute) (a .can) (l .rest) (c .loop-test .left)
 
@@ -125,7 +120,6 @@ settle-attribute-spec =
     mul-rest
     element-copy-out-rest
     returns
-    unpack-requires
     raised-value-requires
     loop-holds
     lowest-bit-requires

@@ -1,29 +1,27 @@
 -- `firing::settle_both` meets its contract. The loop's invariant: the mask is settled by the conditions of the kind
 -- whose bits are no longer left. Assumes nothing.
-use mathlib.Core.Path.{_≡_, _∙_, ap, ap₂}
-use mathlib.Core.List.{List}
-use Prim.Native.Nat.{ℕ, _^_, _<_}
+use mathlib.Core.Path.{_≡_, _∙_, ap}
+use Prim.Native.Nat.{_^_, _<_}
 use native.Mathlib.Omega.{arith}
-use lib.ListN.{length, getD}
 use lib.Pow.{pow-pos}
 use Rattle.firing.specs.Plan.{conditionIn, othersIn, bothSides}
-use Rattle.firing.specs.Firing.{valuesOf}
 use Rattle.firing.proofs.Joins.{weight-le}
 use Rattle.firing.proofs.Settling.{OfKind, bit-below, leftBy, others-bound, others-kind, left-first, left-all}
-use Rattle.firing.proofs.Settling.{left-turn, sides-settled, value-at}
+use Rattle.firing.proofs.Settling.{left-turn, sides-settled}
 use Rattle.records.specs.Records.{recordAt}
 use Rattle.patterns.specs.declared.Condition.{Condition}
 use Rattle.patterns.specs.Patterns.{mostConditions}
+use Rattle.patterns.specs.Comparison.{value, raise}
 use borrow.Author.Needs.{needs}
 use Rattle.firing.proofs.settle_both.Statement.{statement}
 use Rattle.firing.proofs.settle_both.Tie as tie
 
 abbrev Inv-loop : tie.InvT-loop
-Inv-loop plan n c can block i rest₀ values left₀ rest left =
+Inv-loop plan n c can block i rest₀ left₀ rest left =
     (rest < 2 ^ c) × OfKind plan bothSides rest × (left ≡ leftBy plan block i n c bothSides can rest)
 
 abbrev μ-loop : tie.MeasureT-loop
-μ-loop plan n c can block i rest₀ values left₀ rest left = rest
+μ-loop plan n c can block i rest₀ left₀ rest left = rest
 
 cast-rest : tie.Need-cast-rest Inv-loop μ-loop
 cast-rest c = omega arith
@@ -45,12 +43,9 @@ returns c =
     left-first (a .plan .now) (a .block .now) (a .i) (a .n) (a .c) bothSides (a .can) (p .classed) (omega arith) (p .inside)
     ∙ left-all (a .plan .now) (a .block .now) (a .i) (a .n) (a .c) bothSides (a .can) (othersIn (a .plan .now) bothSides) (c .if1 .taken)
 
-values-of-requires : tie.Need-values-of-requires Inv-loop μ-loop
-values-of-requires c κs = c .before .before .before .pre .here
-
 loop-holds : tie.Need-loop-holds Inv-loop μ-loop
 loop-holds c =
-    let st = c .before .before .before .before in
+    let st = c .before .before .before in
     let a = st .args in
     let p = st .pre in (
       others-bound (a .plan .now) (a .block .now) (a .i) (a .n) (a .c) bothSides (a .can) (p .classed) (omega arith),
@@ -65,66 +60,20 @@ mul-word : tie.Need-mul-word Inv-loop μ-loop
 mul-word c = let s = c .lowest-bit .ensures .small in omega arith
 
 element-copy-out-word : tie.Need-element-copy-out-word Inv-loop μ-loop
-element-copy-out-word c = let s = c .lowest-bit .ensures .small in let size = c .before .before .before .before .before .before .before .pre .sound .size in omega arith
+element-copy-out-word c = let s = c .lowest-bit .ensures .small in let size = c .before .before .before .before .before .before .pre .sound .size in omega arith
 
 unpack-condition-requires : tie.Need-unpack-condition-requires Inv-loop μ-loop
 unpack-condition-requires c κs = search needs
 
-cast-x : tie.Need-cast-x Inv-loop μ-loop
-cast-x c = search needs
+raised-value-requires : tie.Need-raised-value-requires Inv-loop μ-loop
+raised-value-requires c κs = c .before .before .before .before .before .before .before .before .pre .here
 
-mul-x : tie.Need-mul-x Inv-loop μ-loop
-mul-x c =
-    let st = c .before .before .before .before .before .before .before .before .before .before in
-    let l = c .before .before .before .before .before .loop in
-    let low = c .before .before .before .lowest-bit in
-    let below = bit-below (l .rest) (st .args .c) (low .result) (l .inv .0) (low .ensures .here) in
-    let few = st .pre .conditions in
-    let known = st .pre .sound .attribute (low .result) (omega arith) in
-    let is = ap (λ (k : Condition). k .attribute) (c .before .unpack-condition .ensures) in
-    omega arith
-
-array-read-x : tie.Need-array-read-x Inv-loop μ-loop
-unfolding valuesOf
-array-read-x c =
-    let st = c .before .before .before .before .before .before .before .before .before .before in
-    let l = c .before .before .before .before .before .loop in
-    let low = c .before .before .before .lowest-bit in
-    let below = bit-below (l .rest) (st .args .c) (low .result) (l .inv .0) (low .ensures .here) in
-    let few = st .pre .conditions in
-    let known = st .pre .sound .attribute (low .result) (omega arith) in
-    let is = ap (λ (k : Condition). k .attribute) (c .before .unpack-condition .ensures) in
-    let size = ap length (c .before .before .before .before .before .before .values-of .ensures) in omega arith
-
-cast-settle-order : tie.Need-cast-settle-order Inv-loop μ-loop
-cast-settle-order c = search needs
-
-mul-settle-order : tie.Need-mul-settle-order Inv-loop μ-loop
-mul-settle-order c =
-    let st = c .before .before .before .before .before .before .before .before .before .before .before in
-    let l = c .before .before .before .before .before .before .loop in
-    let low = c .before .before .before .before .lowest-bit in
-    let below = bit-below (l .rest) (st .args .c) (low .result) (l .inv .0) (low .ensures .here) in
-    let few = st .pre .conditions in
-    let known = st .pre .sound .attribute2 (low .result) (omega arith) in
-    let is = ap (λ (k : Condition). k .attribute2) (c .before .before .unpack-condition .ensures) in
-    omega arith
-
-array-read-settle-order : tie.Need-array-read-settle-order Inv-loop μ-loop
-unfolding valuesOf
-array-read-settle-order c =
-    let st = c .before .before .before .before .before .before .before .before .before .before .before in
-    let l = c .before .before .before .before .before .before .loop in
-    let low = c .before .before .before .before .lowest-bit in
-    let below = bit-below (l .rest) (st .args .c) (low .result) (l .inv .0) (low .ensures .here) in
-    let few = st .pre .conditions in
-    let known = st .pre .sound .attribute2 (low .result) (omega arith) in
-    let is = ap (λ (k : Condition). k .attribute2) (c .before .before .unpack-condition .ensures) in
-    let size = ap length (c .before .before .before .before .before .before .before .values-of .ensures) in omega arith
+raised-value-requires-2 : tie.Need-raised-value-requires-2 Inv-loop μ-loop
+raised-value-requires-2 c κs = c .before .before .before .before .before .before .before .before .before .pre .here
 
 settle-order-requires : tie.Need-settle-order-requires Inv-loop μ-loop
 settle-order-requires c κs =
-    let st = c .before .before .before .before .before .before .before .before .before .before .before in
+    let st = c .before .before .before .before .before .before .before .before .before .before in
     let l = c .before .before .before .before .before .before .loop in
     let low = c .before .before .before .before .lowest-bit in
     let below = bit-below (l .rest) (st .args .c) (low .result) (l .inv .0) (low .ensures .here) in
@@ -142,31 +91,29 @@ loop-less c =
 
 loop-again : tie.Need-loop-again Inv-loop μ-loop
 loop-again c =
-    let st = c .before .before .before .before .before .before .before .before .before .before .before .before .before in
+    let st = c .before .before .before .before .before .before .before .before .before .before .before .before in
     let a = st .args in
     let l = c .before .before .before .before .before .before .before .before .loop in
     let low = c .before .before .before .before .before .before .lowest-bit in
     let k = conditionIn (a .plan .now) (low .result) in
     let read = c .before .before .before .before .unpack-condition in
-    let values = c .before .before .before .before .before .before .before .before .before .values-of in
     let r = recordAt (a .block .now) (a .i) in
     let below = bit-below (l .rest) (a .c) (low .result) (l .inv .0) (low .ensures .here) in
     let few = st .pre .conditions in
     let at : low .result < mostConditions = omega arith in
     let first = st .pre .sound .attribute (low .result) at in
-    let second = st .pre .sound .attribute2 (low .result) at in
     let taken = c .before .settle-order in
     left-turn (a .plan .now) (a .block .now) (a .i) (a .n) (a .c) bothSides (a .can) (l .rest) (low .result) (l .inv .0) (low .ensures .here) (l .inv .1)
     (l .left) (taken .result) (c .without-lowest .result) (l .inv .2)
     (taken .ensures
     ∙ sides-settled k (l .inv .1 .each (low .result) (low .ensures .here)) first (l .left) _ _ r
-    (ap₂ (λ (v : List ℕ) (j : Condition). getD v (j .attribute) 0) (values .ensures) (read .ensures) ∙ value-at r (k .attribute) first)
-    (ap₂ (λ (v : List ℕ) (j : Condition). getD v (j .attribute2) 0) (values .ensures) (read .ensures) ∙ value-at r (k .attribute2) second))
+    (c .before .before .before .raised-value .ensures ∙ ap (λ (j : Condition). raise (value (j .attribute) r)) (read .ensures))
+    (c .before .before .raised-value2 .ensures ∙ ap (λ (j : Condition). raise (value (j .attribute2) r)) (read .ensures)))
     (c .without-lowest .ensures (low .result) (low .ensures))
 
 returns-2 : tie.Need-returns-2 Inv-loop μ-loop
 returns-2 c =
-    let a = c .before .before .before .before .before .before .args in
+    let a = c .before .before .before .before .before .args in
     let l = c .before .loop in
     l .inv .2 ∙ left-all (a .plan .now) (a .block .now) (a .i) (a .n) (a .c) bothSides (a .can) (l .rest) (c .loop-test .left)
 
@@ -181,18 +128,13 @@ settle-both-spec =
     mul-rest
     element-copy-out-rest
     returns
-    values-of-requires
     loop-holds
     lowest-bit-requires
     mul-word
     element-copy-out-word
     unpack-condition-requires
-    cast-x
-    mul-x
-    array-read-x
-    cast-settle-order
-    mul-settle-order
-    array-read-settle-order
+    raised-value-requires
+    raised-value-requires-2
     settle-order-requires
     without-lowest-requires
     loop-less

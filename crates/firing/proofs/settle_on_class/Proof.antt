@@ -1,13 +1,12 @@
--- `firing::settle_on_class` meets its contract: condition i is on class, or it is not. Assumes nothing.
-use mathlib.Core.Path.{_≡_, _∙_, sym, ap}
+-- `firing::settle_on_class` meets its contract: condition i is not on class, or it holds or fails of the class.
+-- Assumes nothing.
+use mathlib.Core.Path.{_≡_, _∙_, sym}
 use mathlib.Core.Bool.{true, false}
 use native.Mathlib.Omega.{arith}
 use borrow.Author.Tests.{not-true, not-false}
-use Rattle.patterns.specs.declared.Condition.{Condition}
 use Rattle.patterns.specs.Checked.{conditionAt}
-use Rattle.firing.specs.Plan.{isOnClass}
-use Rattle.firing.specs.Firing.{settled}
-use Rattle.firing.proofs.Own.{on-class-settled, off-class-settled}
+use Rattle.firing.specs.Plan.{isOnClass, sampleOf}
+use Rattle.firing.proofs.Own.{off-class-settled, class-kept, class-lost}
 use borrow.Author.Needs.{needs}
 use Rattle.firing.proofs.settle_on_class.Statement.{statement}
 use Rattle.firing.proofs.settle_on_class.Tie as tie
@@ -26,26 +25,60 @@ unfolding conditionAt
 returns c =
     let a = c .before .before .before .before .args in
     let off : isOnClass (conditionAt (a .t2) (a .i)) ≡ false = sym (c .before .is-on-class .ensures) ∙ not-true (c .before .is-on-class .result) (c .if1 .taken) in
-    sym (off-class-settled (a .can) (conditionAt (a .t2) (a .i)) (a .r) off)
+    sym (off-class-settled (a .can) (conditionAt (a .t2) (a .i)) (sampleOf (a .b)) off)
 
-word-at-requires : tie.Need-word-at-requires
-word-at-requires c κs = search needs
+mul-raised-class : tie.Need-mul-raised-class
+mul-raised-class c = search needs
 
-settle-requires : tie.Need-settle-requires
-settle-requires c κs =
-    let s = c .before .before .before .before .before in
-    let same = ap (λ (k : Condition). k .operator) (c .word-at .ensures .back) in
-    let known = s .pre .0 .operator (s .args .i) (s .pre .1) in
-    omega arith
+cast-raised-class : tie.Need-cast-raised-class
+cast-raised-class c = search needs
+
+raised-class-requires : tie.Need-raised-class-requires
+raised-class-requires c κs = search needs
+
+mul-raised-constant : tie.Need-mul-raised-constant
+mul-raised-constant c = search needs
+
+element-copy-out-raised-constant : tie.Need-element-copy-out-raised-constant
+element-copy-out-raised-constant c = search needs
+
+raised-constant-requires : tie.Need-raised-constant-requires
+raised-constant-requires c κs = search needs
+
+element-copy-out-compare : tie.Need-element-copy-out-compare
+element-copy-out-compare c = search needs
+
+compare-requires : tie.Need-compare-requires
+unfolding conditionAt
+compare-requires c κs = let st = c .before .before .before .before .before .before .before .before in st .pre .0 .operator (st .args .i) (st .pre .1)
 
 returns-2 : tie.Need-returns-2
-unfolding conditionAt
+unfolding conditionAt sampleOf
 returns-2 c =
-    let a = c .before .before .before .before .before .before .args in
-    let on : isOnClass (conditionAt (a .t2) (a .i)) ≡ true = sym (c .before .before .before .is-on-class .ensures) ∙ not-false (c .before .before .before .is-on-class .result) (c .before .before .if1 .left) in
-    c .settle .ensures
-    ∙ ap (λ (k : Condition). settled (a .can) k (a .r)) (c .before .word-at .ensures .back)
-    ∙ sym (on-class-settled (a .can) (conditionAt (a .t2) (a .i)) (a .r) on)
+    let a = c .before .before .before .before .before .before .before .before .before .before .args in
+    let on : isOnClass (conditionAt (a .t2) (a .i)) ≡ true = sym (c .before .before .before .before .before .before .before .is-on-class .ensures) ∙ not-false (c .before .before .before .before .before .before .before .is-on-class .result) (c .before .before .before .before .before .before .if1 .left) in
+    sym (class-kept (conditionAt (a .t2) (a .i)) on (a .can) _ _ (sampleOf (a .b)) (c .before .before .before .before .before .raised-class .ensures) (c .before .before .before .raised-constant .ensures)
+    (sym (c .before .compare .ensures) ∙ c .if2 .taken))
+
+element-copy-out-without-bit : tie.Need-element-copy-out-without-bit
+element-copy-out-without-bit c = search needs
+
+cast-without-bit : tie.Need-cast-without-bit
+unfolding conditionAt
+cast-without-bit c = let st = c .before .before .before .before .before .before .before .before .before .before .before in let few = st .pre .0 .few in let v = st .pre .0 .variable (st .args .i) (st .pre .1) in omega arith
+
+without-bit-requires : tie.Need-without-bit-requires
+unfolding conditionAt
+without-bit-requires c κs = let st = c .before .before .before .before .before .before .before .before .before .before .before in let few = st .pre .0 .few in let v = st .pre .0 .variable (st .args .i) (st .pre .1) in omega arith
+
+returns-3 : tie.Need-returns-3
+unfolding conditionAt sampleOf
+returns-3 c =
+    let a = c .before .before .before .before .before .before .before .before .before .before .before .before .args in
+    let on : isOnClass (conditionAt (a .t2) (a .i)) ≡ true = sym (c .before .before .before .before .before .before .before .before .before .is-on-class .ensures) ∙ not-false (c .before .before .before .before .before .before .before .before .before .is-on-class .result) (c .before .before .before .before .before .before .before .before .if1 .left) in
+    c .without-bit .ensures
+    ∙ sym (class-lost (conditionAt (a .t2) (a .i)) on (a .can) _ _ (sampleOf (a .b)) (c .before .before .before .before .before .before .before .raised-class .ensures) (c .before .before .before .before .before .raised-constant .ensures)
+    (sym (c .before .before .before .compare .ensures) ∙ c .before .before .if2 .left))
 
 pub settle-on-class-spec : {M : Type 1} → statement M
 settle-on-class-spec =
@@ -55,6 +88,16 @@ settle-on-class-spec =
     element-copy-out-is-on-class-2
     is-on-class-requires
     returns
-    word-at-requires
-    settle-requires
-    returns-2)
+    mul-raised-class
+    cast-raised-class
+    raised-class-requires
+    mul-raised-constant
+    element-copy-out-raised-constant
+    raised-constant-requires
+    element-copy-out-compare
+    compare-requires
+    returns-2
+    element-copy-out-without-bit
+    cast-without-bit
+    without-bit-requires
+    returns-3)

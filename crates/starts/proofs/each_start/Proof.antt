@@ -7,7 +7,6 @@ use Prim.Native.Nat.{ℕ, _+_, _-_, _≤_, _<_}
 use lib.Bits.{bitAnd}
 use lib.ListN.{length, getD}
 use Rattle.numbers.proofs.Cases.{by-order}
-use Rattle.records.specs.declared.Record.{Record}
 use Rattle.records.specs.Records.{recordCount}
 use Rattle.starts.specs.declared.Counts.{Counts}
 use Rattle.starts.specs.Sinks.{sinkOf, noneYet}
@@ -95,8 +94,8 @@ loop-again c =
           (open-passed (a .block .now) (a .duration) (h .opened) (st .pre .0 .rising) (omega (arith, h .inv .5)) (next .result - h .i) (h .i) (h .inv .6)),
     )
 
-unpack-requires : tie.Need-unpack-requires Inv-loop μ-loop
-unpack-requires c κs = search needs
+kind-at-requires : tie.Need-kind-at-requires Inv-loop μ-loop
+kind-at-requires c κs = search needs
 
 add-i : tie.Need-add-i Inv-loop μ-loop
 add-i c = search needs
@@ -106,12 +105,12 @@ loop-less-2 c = search needs
 
 loop-again-2 : tie.Need-loop-again-2 Inv-loop μ-loop
 loop-again-2 c =
-    let st = c .before .before .before .before .before .before .before .before .before .before .before in
+    let st = c .before .before .before .before .before .before .before .before .before .before in
     let a = st .args in
-    let h = c .before .before .before .before .before .before .loop in
-    let inside = c .before .before .before .before .before .loop-test .taken in
+    let h = c .before .before .before .before .before .loop in
+    let inside = c .before .before .before .before .loop-test .taken in
     let now = sinkOf (h .result) (h .counts) in
-    let kind = ap (λ (x : Record). x .kind) (c .before .before .unpack .ensures) in
+    let kind = c .before .kind-at .ensures in
     let done = started-gap (a .plan .now) (a .block .now) (a .n) (a .c) (a .duration) (a .most) (h .i) (st .pre .0) inside (λ e. c .if2 .taken (kind ∙ e)) now in (
       search needs,
       refl,
@@ -124,8 +123,8 @@ loop-again-2 c =
 
 window-at-requires : tie.Need-window-at-requires Inv-loop μ-loop
 window-at-requires c κs =
-    let h = c .before .before .before .before .before .before .loop in
-    (c .before .before .before .before .before .loop-test .taken, h .inv .5, h .inv .6)
+    let h = c .before .before .before .before .before .loop in
+    (c .before .before .before .before .loop-test .taken, h .inv .5, h .inv .6)
 
 first-steps-requires : tie.Need-first-steps-requires Inv-loop μ-loop
 first-steps-requires c κs = search needs
@@ -138,16 +137,16 @@ slice-aggregate-is-settled c = search needs
 
 is-settled-requires : tie.Need-is-settled-requires Inv-loop μ-loop
 is-settled-requires c κs =
-    let st = c .before .before .before .before .before .before .before .before .before .before .before .before .before .before .before .before .before in
+    let st = c .before .before .before .before .before .before .before .before .before .before .before .before .before .before .before .before in
     let a = st .args in
-    let h = c .before .before .before .before .before .before .before .before .before .before .before .before .loop in
-    let inside = c .before .before .before .before .before .before .before .before .before .before .before .loop-test .taken in
-    let first = c .before .before .before .before .before .before .before .before .before .before .before .before .before .before .leaving in
-    let empty = c .before .before .before .before .before .before .before .before .before .before .before .before .before .empty-slot in
+    let h = c .before .before .before .before .before .before .before .before .before .before .before .loop in
+    let inside = c .before .before .before .before .before .before .before .before .before .before .loop-test .taken in
+    let first = c .before .before .before .before .before .before .before .before .before .before .before .before .before .leaving in
+    let empty = c .before .before .before .before .before .before .before .before .before .before .before .before .empty-slot in
     let w = c .before .before .before .before .before .window-at in
     let event = c .before .before .before .before .before .before .if2 .left in
-    let some = c .before .before .before .before .before .before .before .before .before .if1 .left in
-    let kind = ap (λ (x : Record). x .kind) (c .before .before .before .before .before .before .before .before .unpack .ensures) in
+    let some = c .before .before .before .before .before .before .before .before .if1 .left in
+    let kind = c .before .before .before .before .before .before .before .kind-at .ensures in
     let is = first-read (a .plan .now) (a .block .now) (a .n) (a .c) (st .pre .0 .variables) (a .cans .now) (st .pre .1) (h .i) inside (first .result) (first .ensures) in
     let at = start-branching (a .plan .now) (a .block .now) (a .n) (a .c) (a .duration) (a .most) (h .i) (st .pre .0) inside (bitAnd (getD (a .cans .now) (h .i) 0) (first .result)) is (sym kind ∙ event) (empty .result) (empty .ensures .0)
     (record {
@@ -171,16 +170,16 @@ loop-less-3 c = search needs
 
 loop-again-3 : tie.Need-loop-again-3 Inv-loop μ-loop
 loop-again-3 c =
-    let st = c .before .before .before .before .before .before .before .before .before .before .before .before .before .before .before .before .before .before .before in
+    let st = c .before .before .before .before .before .before .before .before .before .before .before .before .before .before .before .before .before .before in
     let a = st .args in
-    let h = c .before .before .before .before .before .before .before .before .before .before .before .before .before .before .loop in
-    let inside = c .before .before .before .before .before .before .before .before .before .before .before .before .before .loop-test .taken in
-    let first = c .before .before .before .before .before .before .before .before .before .before .before .before .before .before .before .before .leaving in
-    let empty = c .before .before .before .before .before .before .before .before .before .before .before .before .before .before .before .empty-slot in
+    let h = c .before .before .before .before .before .before .before .before .before .before .before .before .before .loop in
+    let inside = c .before .before .before .before .before .before .before .before .before .before .before .before .loop-test .taken in
+    let first = c .before .before .before .before .before .before .before .before .before .before .before .before .before .before .before .leaving in
+    let empty = c .before .before .before .before .before .before .before .before .before .before .before .before .before .before .empty-slot in
     let w = c .before .before .before .before .before .before .before .window-at in
     let event = c .before .before .before .before .before .before .before .before .if2 .left in
-    let some = c .before .before .before .before .before .before .before .before .before .before .before .if1 .left in
-    let kind = ap (λ (x : Record). x .kind) (c .before .before .before .before .before .before .before .before .before .before .unpack .ensures) in
+    let some = c .before .before .before .before .before .before .before .before .before .before .if1 .left in
+    let kind = c .before .before .before .before .before .before .before .before .before .kind-at .ensures in
     let is = first-read (a .plan .now) (a .block .now) (a .n) (a .c) (st .pre .0 .variables) (a .cans .now) (st .pre .1) (h .i) inside (first .result) (first .ensures) in
     let begun = c .before .before .before .before .before .begun in
     let now = sinkOf (h .result) (h .counts) in
@@ -216,16 +215,16 @@ slice-aggregate-branch c = search needs
 
 branch-requires : tie.Need-branch-requires Inv-loop μ-loop
 branch-requires c κs =
-    let st = c .before .before .before .before .before .before .before .before .before .before .before .before .before .before .before .before .before .before in
+    let st = c .before .before .before .before .before .before .before .before .before .before .before .before .before .before .before .before .before in
     let a = st .args in
-    let h = c .before .before .before .before .before .before .before .before .before .before .before .before .before .loop in
-    let inside = c .before .before .before .before .before .before .before .before .before .before .before .before .loop-test .taken in
-    let first = c .before .before .before .before .before .before .before .before .before .before .before .before .before .before .before .leaving in
-    let empty = c .before .before .before .before .before .before .before .before .before .before .before .before .before .before .empty-slot in
+    let h = c .before .before .before .before .before .before .before .before .before .before .before .before .loop in
+    let inside = c .before .before .before .before .before .before .before .before .before .before .before .loop-test .taken in
+    let first = c .before .before .before .before .before .before .before .before .before .before .before .before .before .before .leaving in
+    let empty = c .before .before .before .before .before .before .before .before .before .before .before .before .before .empty-slot in
     let w = c .before .before .before .before .before .before .window-at in
     let event = c .before .before .before .before .before .before .before .if2 .left in
-    let some = c .before .before .before .before .before .before .before .before .before .before .if1 .left in
-    let kind = ap (λ (x : Record). x .kind) (c .before .before .before .before .before .before .before .before .before .unpack .ensures) in
+    let some = c .before .before .before .before .before .before .before .before .before .if1 .left in
+    let kind = c .before .before .before .before .before .before .before .before .kind-at .ensures in
     let is = first-read (a .plan .now) (a .block .now) (a .n) (a .c) (st .pre .0 .variables) (a .cans .now) (st .pre .1) (h .i) inside (first .result) (first .ensures) in (
       start-branching (a .plan .now) (a .block .now) (a .n) (a .c) (a .duration) (a .most) (h .i) (st .pre .0) inside (bitAnd (getD (a .cans .now) (h .i) 0) (first .result)) is (sym kind ∙ event) (empty .result) (empty .ensures .0)
           (record {
@@ -243,7 +242,7 @@ branch-requires c κs =
     )
 
 same-length : tie.Need-same-length Inv-loop μ-loop
-same-length c = c .before .before .before .before .branch .kept .1 .1 .1 .1 .1 .1 .1 .0 ∙ c .before .before .before .before .before .before .before .before .before .before .before .before .before .before .before .before .before .before .loop .inv .2
+same-length c = c .before .before .before .before .branch .kept .1 .1 .1 .1 .1 .1 .1 .0 ∙ c .before .before .before .before .before .before .before .before .before .before .before .before .before .before .before .before .before .loop .inv .2
 
 returns : tie.Need-returns Inv-loop μ-loop
 returns c =
@@ -251,7 +250,7 @@ returns c =
     let begun = c .before .before .before .before .before .before .before .before .before .begun in
     let none = ap (λ (x : Counts). x .steps) (begun .ensures) in
     let few = c .before .before .before .before .before .before .before .before .before .before .first-steps .ensures in
-    let least = c .before .before .before .before .before .before .before .before .before .before .before .before .before .before .before .before .before .before .before .before .before .before .before .pre .3 in
+    let least = c .before .before .before .before .before .before .before .before .before .before .before .before .before .before .before .before .before .before .before .before .before .before .pre .3 in
     let many = c .if5 .taken in
     record {
       bounded = λ small. let end = call .ensures .led .bounded (omega arith) in absurd (omega arith);
@@ -259,23 +258,23 @@ returns c =
     }
 
 add-i-3 : tie.Need-add-i-3 Inv-loop μ-loop
-add-i-3 c = omega (arith, c .before .before .before .before .before .before .before .before .before .before .before .before .before .before .before .before .before .loop-test .taken, c .before .before .before .before .before .before .before .before .before .before .before .before .before .before .before .before .before .before .before .before .before .before .before .pre .0 .records)
+add-i-3 c = omega (arith, c .before .before .before .before .before .before .before .before .before .before .before .before .before .before .before .before .loop-test .taken, c .before .before .before .before .before .before .before .before .before .before .before .before .before .before .before .before .before .before .before .before .before .before .pre .0 .records)
 
 loop-less-4 : tie.Need-loop-less-4 Inv-loop μ-loop
 loop-less-4 c = search needs
 
 loop-again-4 : tie.Need-loop-again-4 Inv-loop μ-loop
 loop-again-4 c =
-    let st = c .before .before .before .before .before .before .before .before .before .before .before .before .before .before .before .before .before .before .before .before .before .before .before in
+    let st = c .before .before .before .before .before .before .before .before .before .before .before .before .before .before .before .before .before .before .before .before .before .before in
     let a = st .args in
-    let h = c .before .before .before .before .before .before .before .before .before .before .before .before .before .before .before .before .before .before .loop in
-    let inside = c .before .before .before .before .before .before .before .before .before .before .before .before .before .before .before .before .before .loop-test .taken in
-    let first = c .before .before .before .before .before .before .before .before .before .before .before .before .before .before .before .before .before .before .before .before .leaving in
-    let empty = c .before .before .before .before .before .before .before .before .before .before .before .before .before .before .before .before .before .before .before .empty-slot in
+    let h = c .before .before .before .before .before .before .before .before .before .before .before .before .before .before .before .before .before .loop in
+    let inside = c .before .before .before .before .before .before .before .before .before .before .before .before .before .before .before .before .loop-test .taken in
+    let first = c .before .before .before .before .before .before .before .before .before .before .before .before .before .before .before .before .before .before .before .leaving in
+    let empty = c .before .before .before .before .before .before .before .before .before .before .before .before .before .before .before .before .before .before .empty-slot in
     let w = c .before .before .before .before .before .before .before .before .before .before .before .window-at in
     let event = c .before .before .before .before .before .before .before .before .before .before .before .before .if2 .left in
-    let some = c .before .before .before .before .before .before .before .before .before .before .before .before .before .before .before .if1 .left in
-    let kind = ap (λ (x : Record). x .kind) (c .before .before .before .before .before .before .before .before .before .before .before .before .before .before .unpack .ensures) in
+    let some = c .before .before .before .before .before .before .before .before .before .before .before .before .before .before .if1 .left in
+    let kind = c .before .before .before .before .before .before .before .before .before .before .before .before .before .kind-at .ensures in
     let is = first-read (a .plan .now) (a .block .now) (a .n) (a .c) (st .pre .0 .variables) (a .cans .now) (st .pre .1) (h .i) inside (first .result) (first .ensures) in
     let begun = c .before .before .before .before .before .before .before .before .before .begun in
     let now = sinkOf (h .result) (h .counts) in
@@ -335,7 +334,7 @@ each-start-spec =
     next-can-requires
     loop-less
     loop-again
-    unpack-requires
+    kind-at-requires
     add-i
     loop-less-2
     loop-again-2

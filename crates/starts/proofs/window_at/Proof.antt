@@ -1,9 +1,8 @@
 -- `starts::window_at` meets its contract: the first gap, the first record past the window, or the end. Assumes nothing.
 use native.Mathlib.Omega.{arith}
-use mathlib.Core.Path.{_≡_, refl, sym, ap, subst, _∙_}
+use mathlib.Core.Path.{_≡_, refl, sym, subst, _∙_}
 use Prim.Native.Nat.{ℕ, _+_, _-_, _≤_, _<_}
 use borrow.Author.Tests.{ltb-false}
-use Rattle.records.specs.declared.Record.{Record}
 use Rattle.records.specs.Records.{recordAt, recordCount}
 use Rattle.starts.specs.Skips.{OpenTo, WindowIs}
 use Rattle.starts.proofs.Windows.{open-from, open-more, window-gap, window-past, window-end}
@@ -38,16 +37,18 @@ loop-holds c =
       open-from (a .block .now) (a .duration) (a .i) (a .opened) (k .result) (k .ensures) (st .pre .2),
     )
 
-unpack-requires : tie.Need-unpack-requires Inv-loop μ-loop
-unpack-requires c κs = omega arith
+kind-at-requires : tie.Need-kind-at-requires Inv-loop μ-loop
+kind-at-requires c κs = omega arith
 
 returns : tie.Need-returns Inv-loop μ-loop
 returns c =
-    let a = c .before .before .before .before .before .before .before .before .args in
-    let h = c .before .before .before .before .loop in
-    let r = c .before .before .unpack in
-    let kind = ap (λ (x : Record). x .kind) (r .ensures) in
+    let a = c .before .before .before .before .before .before .before .args in
+    let h = c .before .before .before .loop in
+    let kind = c .before .kind-at .ensures in
     window-gap (a .block .now) (a .duration) (a .i) (h .k) (h .inv .0) (omega arith) (h .inv .4) (omega arith) (λ e. c .if1 .taken (kind ∙ e))
+
+time-at-requires-2 : tie.Need-time-at-requires-2 Inv-loop μ-loop
+time-at-requires-2 c κs = omega arith
 
 is-past-requires : tie.Need-is-past-requires Inv-loop μ-loop
 is-past-requires c κs = search needs
@@ -56,11 +57,10 @@ returns-2 : tie.Need-returns-2 Inv-loop μ-loop
 returns-2 c =
     let a = c .before .before .before .before .before .before .before .before .before .before .args in
     let h = c .before .before .before .before .before .before .loop in
-    let r = c .before .before .before .before .unpack in
-    let kind = ap (λ (x : Record). x .kind) (r .ensures) in
-    let time = ap (λ (x : Record). x .time) (r .ensures) in
+    let kind = c .before .before .before .before .kind-at .ensures in
+    let time = c .before .before .time-at2 .ensures in
     let past = sym (c .before .is-past .ensures) ∙ c .if2 .taken in
-    window-past (a .block .now) (a .duration) (a .i) (h .k) (h .inv .0) (omega arith) (h .inv .4) (omega arith) (sym kind ∙ c .before .before .if1 .left)
+    window-past (a .block .now) (a .duration) (a .i) (h .k) (h .inv .0) (omega arith) (h .inv .4) (omega arith) (sym kind ∙ c .before .before .before .if1 .left)
     (rw (sym (h .inv .3), sym time) past)
 
 add-k : tie.Need-add-k Inv-loop μ-loop
@@ -73,9 +73,8 @@ loop-again : tie.Need-loop-again Inv-loop μ-loop
 loop-again c =
     let a = c .before .before .before .before .before .before .before .before .before .before .args in
     let h = c .before .before .before .before .before .before .loop in
-    let r = c .before .before .before .before .unpack in
-    let kind = ap (λ (x : Record). x .kind) (r .ensures) in
-    let time = ap (λ (x : Record). x .time) (r .ensures) in
+    let kind = c .before .before .before .before .kind-at .ensures in
+    let time = c .before .before .time-at2 .ensures in
     let first = h .inv .3 in
     let near : recordAt (a .block .now) (h .k) .time ≤ recordAt (a .block .now) (a .i) .time + a .duration =
     ltb-false (recordAt (a .block .now) (a .i) .time + a .duration) (recordAt (a .block .now) (h .k) .time) (rw (sym (h .inv .3), sym time) (sym (c .before .is-past .ensures) ∙ c .if2 .left)) in (
@@ -83,7 +82,7 @@ loop-again c =
       search needs,
       refl,
       h .inv .3,
-      open-more (a .block .now) (a .duration) (a .i) (h .k) (h .inv .0) (omega arith) (h .inv .4) (omega arith) (sym kind ∙ c .before .before .if1 .left) near,
+      open-more (a .block .now) (a .duration) (a .i) (h .k) (h .inv .0) (omega arith) (h .inv .4) (omega arith) (sym kind ∙ c .before .before .before .if1 .left) near,
     )
 
 returns-3 : tie.Need-returns-3 Inv-loop μ-loop
@@ -104,8 +103,9 @@ window-at-spec =
     add-larger
     larger-requires
     loop-holds
-    unpack-requires
+    kind-at-requires
     returns
+    time-at-requires-2
     is-past-requires
     returns-2
     add-k

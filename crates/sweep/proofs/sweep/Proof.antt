@@ -1,11 +1,10 @@
 -- `sweep::sweep` meets its contract. The loop's invariant: the starts are those of all that readings could have come to
 -- before record j, and the windows of the records before `low` are past. Assumes nothing.
 use native.Mathlib.Omega.{arith}
-use mathlib.Core.Path.{_≡_, sym, ap, subst, _∙_}
+use mathlib.Core.Path.{_≡_, sym, subst, _∙_}
 use mathlib.Core.Bool.{false, true≢false}
 use Prim.Native.Nat.{_-_, _≤_}
 use lib.ListN.{getD}
-use Rattle.records.specs.declared.Record.{Record}
 use Rattle.records.specs.Records.{recordAt, recordCount, eventKind}
 use Rattle.reach.proofs.Masks.{read-bound}
 use Rattle.sweep.specs.Starts.{Moved}
@@ -51,8 +50,8 @@ loop-holds c =
     let s = c .before .before .before .list-states in
     (omega arith, going-none (a .plan .now) (a .block .now) (a .n) (a .c) (a .duration) (c .before .before .before .before .before .before .before .before .before .before .before .pre .0) (c .before .is-free .result) (s .last .1 .1 .1 .0) (s .last .1 .1 .1 .1 .0) (s .result) (c .before .is-free .ensures) (s .last .1 .1 .0) (c .no-starts .result) (s .ensures (c .before .before .if1 .left)) (c .no-starts .ensures))
 
-unpack-requires : tie.Need-unpack-requires Inv-loop μ-loop
-unpack-requires c κs =
+kind-at-requires : tie.Need-kind-at-requires Inv-loop μ-loop
+kind-at-requires c κs =
     let here = c .loop-test .taken in
     omega arith
 
@@ -67,31 +66,31 @@ loop-less c = search needs
 
 loop-again : tie.Need-loop-again Inv-loop μ-loop
 loop-again c =
-    let a = c .before .before .before .before .before .before .before .before .before .before .before .before .before .before .before .before .before .args in
-    let h = c .before .before .before .before .before .loop in
-    let here = c .before .before .before .before .loop-test .taken in
-    let s = c .before .before .before .before .before .before .before .before .before .list-states in
-    let gap : recordAt (a .block .now) (h .j) .kind ≡ eventKind → ⊥ = λ e. c .before .if2 .taken (ap (λ (x : Record). x .kind) (c .before .before .before .unpack .ensures) ∙ e) in
-    (omega arith, going-gap (a .plan .now) (a .block .now) (a .n) (a .c) (a .duration) (c .before .before .before .before .before .before .before .before .before .before .before .before .before .before .before .before .before .pre .0) (c .before .before .before .before .before .before .before .is-free .result) (s .last .1 .1 .1 .0) (s .last .1 .1 .1 .1 .0) (s .result) (h .starts) (h .low) (h .j) (h .inv .1) gap (c .no-starts2 .result) (c .no-starts2 .ensures))
+    let a = c .before .before .before .before .before .before .before .before .before .before .before .before .before .before .before .before .args in
+    let h = c .before .before .before .before .loop in
+    let here = c .before .before .before .loop-test .taken in
+    let s = c .before .before .before .before .before .before .before .before .list-states in
+    let gap : recordAt (a .block .now) (h .j) .kind ≡ eventKind → ⊥ = λ e. c .before .if2 .taken (c .before .before .kind-at .ensures ∙ e) in
+    (omega arith, going-gap (a .plan .now) (a .block .now) (a .n) (a .c) (a .duration) (c .before .before .before .before .before .before .before .before .before .before .before .before .before .before .before .before .pre .0) (c .before .before .before .before .before .before .is-free .result) (s .last .1 .1 .1 .0) (s .last .1 .1 .1 .1 .0) (s .result) (h .starts) (h .low) (h .j) (h .inv .1) gap (c .no-starts2 .result) (c .no-starts2 .ensures))
 
 mul-can : tie.Need-mul-can Inv-loop μ-loop
 mul-can c =
-    let records = c .before .before .before .before .before .before .before .before .before .before .before .before .before .before .before .before .pre .0 .records in
-    let here = c .before .before .before .loop-test .taken in
+    let records = c .before .before .before .before .before .before .before .before .before .before .before .before .before .before .before .pre .0 .records in
+    let here = c .before .before .loop-test .taken in
     omega arith
 
 element-copy-out-can : tie.Need-element-copy-out-can Inv-loop μ-loop
 element-copy-out-can c =
-    let records = c .before .before .before .before .before .before .before .before .before .before .before .before .before .before .before .before .pre .0 .records in
-    let here = c .before .before .before .loop-test .taken in
+    let records = c .before .before .before .before .before .before .before .before .before .before .before .before .before .before .before .pre .0 .records in
+    let here = c .before .before .loop-test .taken in
     omega arith
 
 cast-can : tie.Need-cast-can Inv-loop μ-loop
 cast-can c =
-    let a = c .before .before .before .before .before .before .before .before .before .before .before .before .before .before .before .before .before .args in
-    let pre = c .before .before .before .before .before .before .before .before .before .before .before .before .before .before .before .before .before .pre in
-    let here = c .before .before .before .before .loop-test .taken in
-    let small = read-bound (a .plan .now) (a .block .now) (a .n) (a .c) (pre .0 .variables) (a .cans .now) (pre .1) (c .before .before .before .before .before .loop .j) (omega arith) in
+    let a = c .before .before .before .before .before .before .before .before .before .before .before .before .before .before .before .before .args in
+    let pre = c .before .before .before .before .before .before .before .before .before .before .before .before .before .before .before .before .pre in
+    let here = c .before .before .before .loop-test .taken in
+    let small = read-bound (a .plan .now) (a .block .now) (a .n) (a .c) (pre .0 .variables) (a .cans .now) (pre .1) (c .before .before .before .before .loop .j) (omega arith) in
     omega arith
 
 add-j-2 : tie.Need-add-j-2 Inv-loop μ-loop
@@ -102,58 +101,58 @@ loop-less-2 c = search needs
 
 loop-again-2 : tie.Need-loop-again-2 Inv-loop μ-loop
 loop-again-2 c =
-    let a = c .before .before .before .before .before .before .before .before .before .before .before .before .before .before .before .before .before .before .args in
-    let h = c .before .before .before .before .before .before .loop in
-    let here = c .before .before .before .before .before .loop-test .taken in
-    let s = c .before .before .before .before .before .before .before .before .before .before .list-states in
-    let idle = sym (c .before .before .before .before .before .before .before .before .before .before .before .before .before .before .before .before .before .before .pre .1 .each (h .j) (omega arith)) ∙ c .if3 .taken in
-    let event = sym (ap (λ (x : Record). x .kind) (c .before .before .before .before .unpack .ensures)) ∙ c .before .before .if2 .left in
-    (omega arith, going-idle (a .plan .now) (a .block .now) (a .n) (a .c) (a .duration) (c .before .before .before .before .before .before .before .before .before .before .before .before .before .before .before .before .before .before .pre .0) (c .before .before .before .before .before .before .before .before .is-free .result) (s .last .1 .1 .1 .0) (s .last .1 .1 .1 .1 .0) (s .result) (h .starts) (h .low) (h .j) (h .inv .1) (omega arith) event idle)
+    let a = c .before .before .before .before .before .before .before .before .before .before .before .before .before .before .before .before .before .args in
+    let h = c .before .before .before .before .before .loop in
+    let here = c .before .before .before .before .loop-test .taken in
+    let s = c .before .before .before .before .before .before .before .before .before .list-states in
+    let idle = sym (c .before .before .before .before .before .before .before .before .before .before .before .before .before .before .before .before .before .pre .1 .each (h .j) (omega arith)) ∙ c .if3 .taken in
+    let event = sym (c .before .before .before .kind-at .ensures) ∙ c .before .before .if2 .left in
+    (omega arith, going-idle (a .plan .now) (a .block .now) (a .n) (a .c) (a .duration) (c .before .before .before .before .before .before .before .before .before .before .before .before .before .before .before .before .before .pre .0) (c .before .before .before .before .before .before .before .is-free .result) (s .last .1 .1 .1 .0) (s .last .1 .1 .1 .1 .0) (s .result) (h .starts) (h .low) (h .j) (h .inv .1) (omega arith) event idle)
 
 first-open-requires : tie.Need-first-open-requires Inv-loop μ-loop
 first-open-requires c κs =
-    let a = c .before .before .before .before .before .before .before .before .before .before .before .before .before .before .before .before .before .before .args in
-    let h = c .before .before .before .before .before .before .loop in
-    let here = c .before .before .before .before .before .loop-test .taken in
-    let s = c .before .before .before .before .before .before .before .before .before .before .list-states in
-    (omega arith, h .inv .1 .before, going-past (a .plan .now) (a .block .now) (a .n) (a .c) (a .duration) (c .before .before .before .before .before .before .before .before .before .before .before .before .before .before .before .before .before .before .pre .0) (c .before .before .before .before .before .before .before .before .is-free .result) (s .last .1 .1 .1 .0) (s .last .1 .1 .1 .1 .0) (s .result) (h .starts) (h .low) (h .j) (h .inv .1) (omega arith))
+    let a = c .before .before .before .before .before .before .before .before .before .before .before .before .before .before .before .before .before .args in
+    let h = c .before .before .before .before .before .loop in
+    let here = c .before .before .before .before .loop-test .taken in
+    let s = c .before .before .before .before .before .before .before .before .before .list-states in
+    (omega arith, h .inv .1 .before, going-past (a .plan .now) (a .block .now) (a .n) (a .c) (a .duration) (c .before .before .before .before .before .before .before .before .before .before .before .before .before .before .before .before .before .pre .0) (c .before .before .before .before .before .before .before .is-free .result) (s .last .1 .1 .1 .0) (s .last .1 .1 .1 .1 .0) (s .result) (h .starts) (h .low) (h .j) (h .inv .1) (omega arith))
 
 cast-is-over-at : tie.Need-cast-is-over-at Inv-loop μ-loop
 cast-is-over-at c =
-    let records = c .before .before .before .before .before .before .before .before .before .before .before .before .before .before .before .before .before .before .before .before .before .before .pre .0 .records in
-    let here = c .before .before .before .before .before .before .before .before .before .loop-test .taken in
+    let records = c .before .before .before .before .before .before .before .before .before .before .before .before .before .before .before .before .before .before .before .before .before .pre .0 .records in
+    let here = c .before .before .before .before .before .before .before .before .loop-test .taken in
     let up = c .before .before .before .first-open .ensures .upTo in
     omega arith
 
 is-over-at-requires : tie.Need-is-over-at-requires Inv-loop μ-loop
 is-over-at-requires c κs =
-    let a = c .before .before .before .before .before .before .before .before .before .before .before .before .before .before .before .before .before .before .before .before .before .before .args in
-    let pre = c .before .before .before .before .before .before .before .before .before .before .before .before .before .before .before .before .before .before .before .before .before .before .pre in
-    let h = c .before .before .before .before .before .before .before .before .before .before .loop in
-    let here = c .before .before .before .before .before .before .before .before .before .loop-test .taken in
-    let s = c .before .before .before .before .before .before .before .before .before .before .before .before .before .before .list-states in
+    let a = c .before .before .before .before .before .before .before .before .before .before .before .before .before .before .before .before .before .before .before .before .before .args in
+    let pre = c .before .before .before .before .before .before .before .before .before .before .before .before .before .before .before .before .before .before .before .before .before .pre in
+    let h = c .before .before .before .before .before .before .before .before .before .loop in
+    let here = c .before .before .before .before .before .before .before .before .loop-test .taken in
+    let s = c .before .before .before .before .before .before .before .before .before .before .before .before .before .list-states in
     let records = pre .0 .records in
-    (h .inv .1 .kept .size, going-inside (a .plan .now) (a .block .now) (a .n) (a .c) (a .duration) (pre .0) (c .before .before .before .before .before .before .before .before .before .before .before .before .is-free .result) (s .last .1 .1 .1 .0) (s .last .1 .1 .1 .1 .0) (s .result) (h .starts) (h .low) (h .j) (h .inv .1), read-bound (a .plan .now) (a .block .now) (a .n) (a .c) (pre .0 .variables) (a .cans .now) (pre .1) (h .j) (omega arith), omega arith)
+    (h .inv .1 .kept .size, going-inside (a .plan .now) (a .block .now) (a .n) (a .c) (a .duration) (pre .0) (c .before .before .before .before .before .before .before .before .before .before .before .is-free .result) (s .last .1 .1 .1 .0) (s .last .1 .1 .1 .1 .0) (s .result) (h .starts) (h .low) (h .j) (h .inv .1), read-bound (a .plan .now) (a .block .now) (a .n) (a .c) (pre .0 .variables) (a .cans .now) (pre .1) (h .j) (omega arith), omega arith)
 
 returns-2 : tie.Need-returns-2 Inv-loop μ-loop
 returns-2 c =
-    let a = c .before .before .before .before .before .before .before .before .before .before .before .before .before .before .before .before .before .before .before .before .before .before .before .before .args in
-    let pre = c .before .before .before .before .before .before .before .before .before .before .before .before .before .before .before .before .before .before .before .before .before .before .before .before .pre in
+    let a = c .before .before .before .before .before .before .before .before .before .before .before .before .before .before .before .before .before .before .before .before .before .before .before .args in
+    let pre = c .before .before .before .before .before .before .before .before .before .before .before .before .before .before .before .before .before .before .before .before .before .before .before .pre in
     let usable = pre .0 in
-    let h = c .before .before .before .before .before .before .before .before .before .before .before .before .loop in
-    let here = c .before .before .before .before .before .before .before .before .before .before .before .loop-test .taken in
-    let s = c .before .before .before .before .before .before .before .before .before .before .before .before .before .before .before .before .list-states in
-    let free = c .before .before .before .before .before .before .before .before .before .before .before .before .before .before .is-free in
+    let h = c .before .before .before .before .before .before .before .before .before .before .before .loop in
+    let here = c .before .before .before .before .before .before .before .before .before .before .loop-test .taken in
+    let s = c .before .before .before .before .before .before .before .before .before .before .before .before .before .before .before .list-states in
+    let free = c .before .before .before .before .before .before .before .before .before .before .before .before .before .is-free in
     let first = c .before .before .before .before .before .first-open in
     let is = c .before .is-over-at in
-    let event = sym (ap (λ (x : Record). x .kind) (c .before .before .before .before .before .before .before .before .before .before .unpack .ensures)) ∙ c .before .before .before .before .before .before .before .before .if2 .left in
+    let event = sym (c .before .before .before .before .before .before .before .before .before .kind-at .ensures) ∙ c .before .before .before .before .before .before .before .before .if2 .left in
     let records = usable .records in
     (going-floor (a .plan .now) (a .block .now) (a .n) (a .c) (a .duration) usable (free .result) (s .last .1 .1 .1 .0) (s .last .1 .1 .1 .1 .0) (s .result) (h .starts) (h .low) (h .j) (h .inv .1) (omega arith), going-over (a .plan .now) (a .block .now) (a .n) (a .c) (a .duration) usable (free .result) (s .last .1 .1 .1 .0) (s .last .1 .1 .1 .1 .0) (s .result) (h .starts) (h .low) (h .j) (h .inv .1) (omega arith) event (getD (a .cans .now) (h .j) 0) (first .result) (is .last .0) (pre .1 .each (h .j) (omega arith)) (first .ensures) (subst (Moved (h .starts) (s .last .1 .1 .1 .0) (s .last .1 .1 .1 .1 .0) (s .result) (getD (a .cans .now) (h .j) 0) (first .result) (free .result) (h .j) (is .last .0)) (c .if4 .taken) (is .ensures)))
 
 add-j-3 : tie.Need-add-j-3 Inv-loop μ-loop
 add-j-3 c =
-    let records = c .before .before .before .before .before .before .before .before .before .before .before .before .before .before .before .before .before .before .before .before .before .before .before .before .pre .0 .records in
-    let here = c .before .before .before .before .before .before .before .before .before .before .before .loop-test .taken in
+    let records = c .before .before .before .before .before .before .before .before .before .before .before .before .before .before .before .before .before .before .before .before .before .before .before .pre .0 .records in
+    let here = c .before .before .before .before .before .before .before .before .before .before .loop-test .taken in
     omega arith
 
 loop-less-3 : tie.Need-loop-less-3 Inv-loop μ-loop
@@ -161,15 +160,15 @@ loop-less-3 c = search needs
 
 loop-again-3 : tie.Need-loop-again-3 Inv-loop μ-loop
 loop-again-3 c =
-    let a = c .before .before .before .before .before .before .before .before .before .before .before .before .before .before .before .before .before .before .before .before .before .before .before .before .args in
-    let pre = c .before .before .before .before .before .before .before .before .before .before .before .before .before .before .before .before .before .before .before .before .before .before .before .before .pre in
-    let h = c .before .before .before .before .before .before .before .before .before .before .before .before .loop in
-    let here = c .before .before .before .before .before .before .before .before .before .before .before .loop-test .taken in
-    let s = c .before .before .before .before .before .before .before .before .before .before .before .before .before .before .before .before .list-states in
-    let free = c .before .before .before .before .before .before .before .before .before .before .before .before .before .before .is-free in
+    let a = c .before .before .before .before .before .before .before .before .before .before .before .before .before .before .before .before .before .before .before .before .before .before .before .args in
+    let pre = c .before .before .before .before .before .before .before .before .before .before .before .before .before .before .before .before .before .before .before .before .before .before .before .pre in
+    let h = c .before .before .before .before .before .before .before .before .before .before .before .loop in
+    let here = c .before .before .before .before .before .before .before .before .before .before .loop-test .taken in
+    let s = c .before .before .before .before .before .before .before .before .before .before .before .before .before .before .before .list-states in
+    let free = c .before .before .before .before .before .before .before .before .before .before .before .before .before .is-free in
     let first = c .before .before .before .before .before .first-open in
     let is = c .before .is-over-at in
-    let event = sym (ap (λ (x : Record). x .kind) (c .before .before .before .before .before .before .before .before .before .before .unpack .ensures)) ∙ c .before .before .before .before .before .before .before .before .if2 .left in
+    let event = sym (c .before .before .before .before .before .before .before .before .before .kind-at .ensures) ∙ c .before .before .before .before .before .before .before .before .if2 .left in
     (omega arith, going-moved (a .plan .now) (a .block .now) (a .n) (a .c) (a .duration) (pre .0) (free .result) (s .last .1 .1 .1 .0) (s .last .1 .1 .1 .1 .0) (s .result) (h .starts) (h .low) (h .j) (h .inv .1) (omega arith) event (getD (a .cans .now) (h .j) 0) (first .result) (is .last .0) (pre .1 .each (h .j) (omega arith)) (first .ensures) (subst (Moved (h .starts) (s .last .1 .1 .1 .0) (s .last .1 .1 .1 .1 .0) (s .result) (getD (a .cans .now) (h .j) 0) (first .result) (free .result) (h .j) (is .last .0)) (c .if4 .left) (is .ensures)))
 
 returns-3 : tie.Need-returns-3 Inv-loop μ-loop
@@ -197,7 +196,7 @@ sweep-spec =
     is-free-requires
     no-starts-requires
     loop-holds
-    unpack-requires
+    kind-at-requires
     no-starts-requires-2
     add-j
     loop-less
