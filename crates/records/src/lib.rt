@@ -47,9 +47,8 @@ pub fn refusal(code: u8, place: u32) -> Answer
     }
 }
 
-// ## Fields
+// ## Fields of record i, each fetched by itself
 
-// Each field of record i is fetched by itself; no other bytes of the record are looked at.
 pub fn kind_at(block: &[u8], i: usize) -> u8
     requires { ⌜ recordBytes * i + recordBytes ≤ length (now block) ⌝ }
     ensures { λ r. ⌜ r ≡ recordAt (now (block .entry)) i .kind ⌝ }
@@ -151,7 +150,7 @@ fn is_gap_broken(r: Record) -> bool
     r.slot == 0
 }
 
-// Refusal 6. Of an event nothing else is judged here; of a gap, all of it.
+// Refusal 6. Of an event only the kind is judged here, of a gap every field but the time.
 fn is_broken(block: &[u8], i: usize) -> bool
     requires { ⌜ recordBytes * i + recordBytes ≤ length (now block) ⌝ }
     ensures { λ b. ⌜ b ≡ broken (recordAt (now (block .entry)) i) ⌝ }
