@@ -7,7 +7,7 @@
 enum { VARIABLES = 12, CONDITIONS = 32, SETS = 8, SET_VARIABLES = 6, RECORDS = 4096, BINDINGS = 32 };
 enum { LIMIT = 256, WORK_BYTES = 160, RESULT_BYTES = 65536 };
 enum { ATTRIBUTES = 6, AMOUNT = 4, OPERATORS = 6 };
-enum { MARK_WINDOW = 1, MARK_END = 2, MARK_GAP = 3 };
+enum { MARK_WINDOW = 1, MARK_END = 2, MARK_GAP = 3, MARK_GAP_COMPLETE = 4 };
 
 struct record {
   int64_t value[ATTRIBUTES]; /* core, type, class, slot, amount, wave */
@@ -206,6 +206,9 @@ static unsigned leaving(const struct pattern *p, unsigned state) {
   return open;
 }
 
+/* Of a gap: whether a reading of all variables may take more. */
+static unsigned gap_mark(const struct pattern *p) { return leaving(p, p->full) == 0 ? MARK_GAP_COMPLETE : MARK_GAP; }
+
 static bool joins_hold(const struct variable *x, const struct record *event, unsigned state, const uint16_t *binding,
                        unsigned count) {
   for (unsigned i = 0; i < x->joins; i++) {
@@ -306,12 +309,12 @@ static void close_front(const struct pattern *p, struct half *live, size_t count
 static uint64_t go_forward(const struct pattern *p, size_t count, size_t limit, struct slot *halves[2],
                            struct report *report, size_t *peak) {
   struct half live = {halves[0], 0};
-  unsigned other = 1, first = leaving(p, 0);
+  unsigned other = 1, first = leaving(p, 0), by_gap = gap_mark(p);
   for (size_t at = 0; at < count; at++) {
     size_t closing = live.count;
     if (!is_gap[at])
       for (closing = 0; closing < live.count && live.slot[closing].last_time < times[at];) closing++;
-    close_front(p, &live, closing, is_gap[at] ? MARK_GAP : MARK_WINDOW, report);
+    close_front(p, &live, closing, is_gap[at] ? by_gap : MARK_WINDOW, report);
     if (report->used > report->room) return refusal(11, 0);
     unsigned can = is_gap[at] ? 0 : settle(p, &records[at]);
     if (can == 0) continue;
@@ -394,7 +397,7 @@ static void follow(struct start *s, unsigned state, size_t at) {
 
 static void search(struct start *s, size_t count) {
   size_t gap = 0, late = 0;
-  unsigned first_open = leaving(s->p, 0);
+  unsigned first_open = leaving(s->p, 0), by_gap = gap_mark(s->p);
   for (size_t at = 0; at < count; at++) can_bind[at] = (uint16_t)(is_gap[at] ? 0 : settle(s->p, &records[at]));
   for (size_t at = 0; at < count; at++) {
     unsigned left = can_bind[at] & first_open;
@@ -404,7 +407,7 @@ static void search(struct start *s, size_t count) {
     if (late <= at) late = at + 1;
     while (late < count && times[late] - times[at] <= s->p->duration) late++;
     s->until = gap < late ? gap : late;
-    s->mark = s->until == count ? MARK_END : is_gap[s->until] ? MARK_GAP : MARK_WINDOW;
+    s->mark = s->until == count ? MARK_END : is_gap[s->until] ? by_gap : MARK_WINDOW;
     for (; left != 0; left &= left - 1) {
       unsigned v = (unsigned)__builtin_ctz(left);
       s->count = 1;

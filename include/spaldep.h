@@ -78,9 +78,11 @@ enum {
 
 /* How a reported reading was closed: spaldep_mark. */
 enum {
-  SPALDEP_MARK_WINDOW = 1, /* by an event that is later than its first one by more than the duration */
-  SPALDEP_MARK_END = 2,    /* by the block's end */
-  SPALDEP_MARK_GAP = 3     /* by a gap, near or far */
+  SPALDEP_MARK_WINDOW = 1,      /* by an event that is later than its first one by more than the duration */
+  SPALDEP_MARK_END = 2,         /* by the block's end */
+  SPALDEP_MARK_GAP = 3,         /* by a gap, near or far; the last set has a group variable, so that events which were
+                                   lost may have belonged to the reading */
+  SPALDEP_MARK_GAP_COMPLETE = 4 /* by a gap, near or far; the last set has none, so that no lost event did */
 };
 
 /* What a condition compares: its attribute, and with SPALDEP_FORM_ATTRIBUTE its second attribute. Each is a field of

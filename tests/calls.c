@@ -9,6 +9,7 @@
 #include <unistd.h>
 
 #include "lent.h"
+#include "lost.h"
 #include "operators.h"
 #include "reference.h"
 #include "spaldep.h"
@@ -141,7 +142,7 @@ static void count_report(const uint8_t *result, uint64_t answer, size_t result_l
   }
   tally.met[MET_MARK_WINDOW] += marks[1];
   tally.met[MET_MARK_END] += marks[2];
-  tally.met[MET_MARK_GAP] += marks[3];
+  count_gap_lines(&now, result, answer);
   tally.met[MET_MOST_BINDINGS] += long_one;
   tally.met[MET_RESULT_FULL] += used > 0 && used == result_len / 2;
 }
@@ -268,6 +269,31 @@ void compare_without_waves(uint32_t limit, size_t work_len, size_t result_len) {
   if (starts != passed.starts) fail_answers(starts, without_waves, passed.starts);
   same_bytes("leaves another result with waves of 0", &lent_result, passed.starts_result);
   count_without_waves(starts);
+}
+
+void compare_filled(void) {
+  struct line l;
+  size_t gap, other;
+  uint32_t used = spaldep_used(passed.forward);
+  if (!any_gap_line(passed.forward_result, used, now_seed >> 16, &l) || !closing_gap(&now, &l, &gap)) return;
+  lend_input(CALL_FORWARD);
+  fill_gap(lent_block.bytes, gap, l.last);
+  lent_out(&lent_work, NULL, filled(), SPALDEP_WORK_BYTES(SPALDEP_LIMIT_MAX));
+  lent_out(&lent_result, NULL, filled(), SPALDEP_RESULT_BYTES_MAX);
+  uint64_t answer = spaldep_forward(lent_pattern.bytes, now.pattern_len, lent_block.bytes, now.block_len,
+                                    SPALDEP_LIMIT_MAX, lent_work.bytes, lent_work.length, lent_result.bytes,
+                                    lent_result.length);
+  if (spaldep_code(answer) != 0) return;
+  for (uint32_t at = 0; at < used; at += 1 + l.bindings) {
+    l = line_at(passed.forward_result, at);
+    if (!closing_gap(&now, &l, &other) || other != gap) continue;
+    bool stands = has_bindings(lent_result.bytes, spaldep_used(answer), &l);
+    bool grows = !stands && has_more(lent_result.bytes, spaldep_used(answer), &l);
+    if (l.mark == SPALDEP_MARK_GAP_COMPLETE && !stands) fail("drops a reading with mark 4 where its gap is an event");
+    if (!stands && !grows) fail("drops a reading that a gap closed where the gap is an event");
+    tally.met[MET_FILLED_STANDS] += l.mark == SPALDEP_MARK_GAP_COMPLETE && stands;
+    tally.met[MET_FILLED_GROWS] += l.mark == SPALDEP_MARK_GAP && grows;
+  }
 }
 
 void calls_ready(void) {

@@ -41,6 +41,11 @@ void compare_passes(uint32_t limit, size_t work_len, size_t result_len);
    arguments: where the pattern asks no wave, they answer as before and leave the same bytes. */
 void compare_without_waves(uint32_t limit, size_t work_len, size_t result_len);
 
+/* The forward pass of the library once more, with the highest limit and the longest result, on the block with a gap
+   that closed one of the readings made an event, right after compare_passes: what the gap closed with mark 4 is reported
+   of that block too, and what it closed with mark 3 as it was or with more bindings. */
+void compare_filled(void);
+
 /* The reference's forward pass against every list of bindings, where there are few enough. */
 void compare_by_rule(uint32_t limit, size_t work_len, size_t result_len);
 

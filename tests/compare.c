@@ -188,6 +188,7 @@ static void run_case(uint64_t seed) {
   find_edges(&r, &used, &peak);
   compare_passes(SPALDEP_LIMIT_MAX, MOST_WORK, SPALDEP_RESULT_BYTES_MAX);
   compare_without_waves(SPALDEP_LIMIT_MAX, MOST_WORK, SPALDEP_RESULT_BYTES_MAX);
+  compare_filled();
   compare_by_rule(SPALDEP_LIMIT_MAX, MOST_WORK, SPALDEP_RESULT_BYTES_MAX);
   for (unsigned i = 0; i < (now.large ? 1 : 3); i++) {
     uint32_t limit = any_limit(&r, peak);
@@ -222,6 +223,7 @@ static void run_changed_bench(const char *what, size_t at) {
   compare_measure();
   compare_passes(SPALDEP_LIMIT_MAX, MOST_WORK, SPALDEP_RESULT_BYTES_MAX);
   compare_without_waves(SPALDEP_LIMIT_MAX, MOST_WORK, SPALDEP_RESULT_BYTES_MAX);
+  compare_filled();
   end_case();
 }
 

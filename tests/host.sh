@@ -27,7 +27,7 @@ takers() {
 
 host_cases() {
   local bench=(examples/bench.pattern examples/bench.block) limit spans
-  spans=$(printf '3 0@0 1@2 1@3 2@4\n2 1@8 0@9 1@10 2@11\n2 0@9 1@10 2@11\nok 3 14 5')
+  spans=$(printf '4 0@0 1@2 1@3 2@4\n2 1@8 0@9 1@10 2@11\n2 0@9 1@10 2@11\nok 3 14 5')
   step "host on the bench" host 0 "$spans" "" "${bench[@]}"
   step "host on the bench, limit 5" host 0 "$spans" "" "${bench[@]}" 5
   step "host on the bench, limit 4" host 1 "refused 10 5" "forward pass: more readings" "${bench[@]}" 4

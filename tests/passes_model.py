@@ -18,7 +18,7 @@ MOST_BINDINGS = 32
 MOST_COUNTED = 4294967295
 MOST_LIVE = 256
 WORK_PER_READING = 160
-PAST, END, GAP = 1, 2, 3
+PAST, END, GAP, GAP_COMPLETE = 1, 2, 3, 4
 
 # how many bytes of a table the program reads, TABLE_ROOM there
 TABLE_BYTES = 131072
@@ -87,6 +87,10 @@ class Rule:
                     return False
         return True
 
+    def gap_mark(self):
+        last = [group for number, group, zero in self.variables if number == self.sets[-1]]
+        return GAP if any(last) else GAP_COMPLETE
+
     def closed(self, readings, mark):
         """The lines of those readings that hold all variables."""
         return [(mark, reading) for reading in readings if {u for u, _ in reading} == set(range(len(self.sets)))]
@@ -97,7 +101,7 @@ class Rule:
         live = []
         for j, record in enumerate(self.records):
             if record[0] == 1:
-                yield self.closed(live, GAP), False, 0
+                yield self.closed(live, self.gap_mark()), False, 0
                 live = []
                 continue
             late = [reading for reading in live if record[3] - self.records[reading[0][1]][3] > self.duration]
@@ -230,7 +234,7 @@ def steps(n, **rest):
 
 BENCH = joined(BENCH_PATTERN.removeprefix("pattern"))
 BENCH_RECORDS = joined(BENCH_BLOCK.removeprefix("block"))
-P1 = [12292, 0, 4098, 4099, 8196, 8196, 4104, 9, 4106, 8203, 8195, 9, 4106, 8203]
+P1 = [16388, 0, 4098, 4099, 8196, 8196, 4104, 9, 4106, 8203, 8195, 9, 4106, 8203]
 GROUP = plain((1, 1), duration=1000)
 TWO_GROUPS = plain((1, 1), (2, 0), conditions=(condition(0, 2, 0, 0), condition(1, 2, 0, 2)), duration=1000)
 BINDS = [event(10 * i + 10) for i in range(MOST_BINDINGS)]
@@ -243,6 +247,7 @@ GREEDY = plain((1, 1), (2, 0), conditions=(condition(0, 2, 0, 1), condition(1, 2
 EDGES = (0, 1, 0x7FFFFFFF, 0x80000000, 0xFFFFFFFF)
 
 ONE = plain((1, 0))
+BENCH_DRAWS = BENCH[:20] + "28" + BENCH[22:]
 BRIEF = plain((1, 0), duration=5)
 BIND_DRAW = plain((1, 0), (2, 0), conditions=(condition(0, 2, 0, 0), condition(1, 2, 0, 2)))
 BIND_DRAWS = plain((1, 0), (2, 1), conditions=(condition(0, 2, 0, 0), condition(1, 2, 0, 2)))
@@ -391,8 +396,9 @@ LIVE = [
     case(80, BRIEF, steps(20), limit=5),
     "# After a gap nothing is live: three events on each side, with L 3",
     case(40, ONE, THRICE + [gap(40), event(50), event(60), event(70)], limit=3),
-    "# A gap past the window: mark 3; an event past it: mark 1; the end: mark 2",
+    "# A gap past the window: mark 4, and 3 with a group variable in the last set; an event past it: mark 1; the end: mark 2",
     case(40, BENCH, SPAN + [gap(500)]),
+    case(40, BENCH_DRAWS, SPAN + [gap(500)]),
     case(40, BENCH, SPAN + [event(500, 1, 200)]),
     case(40, BENCH, SPAN),
     "# Equal first records, in order of the variables: each event opens both",
@@ -480,7 +486,8 @@ EXAMPLES = [
         ["2 0@0 1@1 1@2"],
     ),
     ("5.5, two ways", plain((1, 1), (2, 0)), [event(10), event(11)], ["2 0@0 1@1"]),
-    ("5.8, a gap past the window", ONE, [event(10), gap(500)], ["3 0@0"]),
+    ("5.8, a gap past the window", ONE, [event(10), gap(500)], ["4 0@0"]),
+    ("5.8, the same under a group variable", plain((1, 1)), [event(10), gap(500)], ["3 0@0"]),
 ]
 EXAMPLE_ROWS = [
     row
@@ -759,7 +766,38 @@ DIFFERENT = {
     ],
 }
 
-TABLE = ROWS + EXAMPLE_ROWS + LENT + REFUSED + LIVE + RULE + WAVE_ROWS + captioned(DIFFERENT, 24)
+# As in WAVES: of each caption the cases, with their lines worked out by hand
+BY_CLASS = (condition(0, 2, 0, 0), condition(1, 2, 0, 2))
+BIND_AND_DRAW = [event(10), event(11, event_type=33)]
+GAPS = {
+    "A gap: mark 3 where the last set has a group variable, alone, beside a plain one on either side, or behind a set": [
+        (plain((1, 1)), [event(10), gap(20)], ["3 0@0"]),
+        (plain((1, 0), (1, 1), conditions=BY_CLASS), BIND_AND_DRAW + [gap(20)], ["3 0@0 1@1"]),
+        (plain((1, 1), (1, 0), conditions=BY_CLASS), BIND_AND_DRAW + [gap(20)], ["3 0@0 1@1"]),
+        (plain((1, 0), (2, 1), conditions=BY_CLASS), BIND_AND_DRAW + [gap(20)], ["3 0@0 1@1"]),
+        (plain((1, 1), (2, 1), conditions=BY_CLASS), BIND_AND_DRAW + [gap(20)], ["3 0@0 1@1"]),
+    ],
+    "Mark 4 where it has none, whatever the sets before it have": [
+        (ONE, [event(10), gap(20)], ["4 0@0"]),
+        (plain((1, 0), (1, 0), conditions=BY_CLASS), BIND_AND_DRAW + [gap(20)], ["4 0@0 1@1"]),
+        (plain((1, 0), (2, 0), conditions=BY_CLASS), BIND_AND_DRAW + [gap(20)], ["4 0@0 1@1"]),
+        (plain((1, 1), (2, 0), conditions=BY_CLASS), BIND_AND_DRAW + [gap(20)], ["4 0@0 1@1"]),
+    ],
+    "The event that was lost, in the gap's place: a reading with mark 3 goes on, one with mark 4 is as it was": [
+        (plain((1, 0), (2, 1), conditions=BY_CLASS), BIND_AND_DRAW + [event(20, event_type=33)], ["2 0@0 1@1 1@2"]),
+        (plain((1, 0), (2, 0), conditions=BY_CLASS), BIND_AND_DRAW + [event(20, event_type=33)], ["2 0@0 1@1"]),
+    ],
+    "An event past the window before the gap: mark 1, with a group variable and without": [
+        (plain((1, 1), duration=5), [event(10), event(16), gap(17)], ["1 0@0", "3 0@1"]),
+        (plain((1, 0), duration=5), [event(10), event(16), gap(17)], ["1 0@0", "4 0@1"]),
+    ],
+    "Closed by the end, with a gap in front: mark 2": [
+        (plain((1, 1)), [gap(5), event(10)], ["2 0@1"]),
+        (plain((1, 0)), [gap(5), event(10)], ["2 0@1"]),
+    ],
+}
+
+TABLE = ROWS + EXAMPLE_ROWS + LENT + REFUSED + LIVE + RULE + WAVE_ROWS + captioned(DIFFERENT, 24) + captioned(GAPS, 24)
 
 # ---- Writing ----
 
@@ -790,7 +828,7 @@ def write(folder):
         assert result_of(pattern, records) == ((0, 0, 14, 3, 5), P1)
     for caption, pattern, records, stated in EXAMPLES:
         assert report_of(pattern, records) == stated, f"the rules state otherwise: {caption}"
-    for caption, cases in [*WAVES.items(), *DIFFERENT.items()]:
+    for caption, cases in [*WAVES.items(), *DIFFERENT.items(), *GAPS.items()]:
         for pattern, records, stated in cases:
             assert report_of(pattern, records) == stated, f"worked out otherwise: {caption}"
     codes = {told[0].split(" ")[1] for told in lines if len(told) == 3}

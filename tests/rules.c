@@ -268,11 +268,18 @@ bool late(const struct pattern *p, const struct block *b, const struct reading *
   return b->record[at].time - b->record[r->binding[0].record].time > p->duration;
 }
 
+/* Rule 5.8: whether a variable of the last set is a group variable. */
+static unsigned gap_mark(const struct pattern *p) {
+  for (unsigned v = 0; v < p->n; v++)
+    if (p->set[v] == p->set[p->n - 1] && p->group[v]) return MARK_GAP;
+  return MARK_GAP_COMPLETE;
+}
+
 /* Rule 5.8: the mark with which a live reading closes at `at`, the count of records standing for the end; 0: it does
    not. */
 unsigned closing(const struct pattern *p, const struct block *b, const struct reading *r, size_t at) {
   if (at == b->count) return MARK_END;
-  if (b->record[at].kind == GAP) return MARK_GAP;
+  if (b->record[at].kind == GAP) return gap_mark(p);
   return late(p, b, r, at) ? MARK_WINDOW : 0;
 }
 

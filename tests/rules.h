@@ -28,7 +28,7 @@ enum { CORE, TYPE, CLASS, SLOT, AMOUNT, WAVE, ATTRIBUTES };
 enum { EQUAL, LESS, LESS_EQUAL, GREATER, GREATER_EQUAL, NOT_EQUAL, OPERATORS };
 enum { WITH_CONSTANT, WITH_ATTRIBUTE };
 enum { EVENT, GAP };
-enum { MARK_WINDOW = 1, MARK_END = 2, MARK_GAP = 3 };
+enum { MARK_WINDOW = 1, MARK_END = 2, MARK_GAP = 3, MARK_GAP_COMPLETE = 4 };
 
 struct condition {
   unsigned variable, attribute, operator, form, second_variable, second_attribute;

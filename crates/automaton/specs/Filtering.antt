@@ -2,13 +2,13 @@
 use mathlib.Core.Bool.{Bool, true, false, _&&_}
 use mathlib.Core.List.{List, [], _∷_, _++_}
 
--- Serves rules 4.1, 4.2, 4.3, 5.2
+-- Serves rules 4.1, 4.2, 4.3, 5.2, 5.8
 abbrev pub implies : Bool → Bool → Bool
 implies true b = b
 implies false b = true
 
 module _ {A : Type 0} where
-  -- Serves rules 4.1, 4.2, 4.3, 5.2, 5.3, 5.9: every entry passes the test
+  -- Serves rules 4.1, 4.2, 4.3, 5.2, 5.3, 5.8, 5.9: every entry passes the test
   unfoldable pub all : (A → Bool) → List A → Bool
   all test [] = true
   all test (a ∷ l) = test a && all test l

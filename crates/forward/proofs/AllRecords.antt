@@ -18,7 +18,7 @@ use Rattle.records.specs.Records.{recordCount, recordsOf}
 use Rattle.records.specs.Blocks.{refused}
 use Rattle.records.proofs.Listed.{length-records}
 use Rattle.patterns.specs.declared.Pattern.{Pattern}
-use Rattle.rule.specs.Rule.{Block, Reading, Line, pack, endMark, lastOf, startOf}
+use Rattle.rule.specs.Rule.{Block, Reading, Line, pack, endMark, gapMark, lastOf, startOf}
 use Rattle.rule.specs.Growth.{Partial}
 use Rattle.rule.specs.Promises.{mostBindings, refusedWith, success}
 use Rattle.rule.specs.Calls.{mostLive}
@@ -215,15 +215,15 @@ module _ {p : Pattern} {plan bytes : List ℕ} (q : Prepared p plan bytes) {limi
           let e : start + slotBytes * gone + slotBytes * k ≡ start + slotBytes * (gone + k) = omega arith in
           ap (λ (at : ℕ). isLong (heldIn (slotAt work at))) e ∙ slots-short work start count (gone + k) going-short (omega arith))
 
-      module _ {mark full : ℕ} (isMark : mark ≡ markBy bytes i) (isFull : full ≡ 2 ^ p .n - 1) {result′ : List ℕ}
+      module _ {gap full : ℕ} (isGap : gap ≡ gapMark p) (isFull : full ≡ 2 ^ p .n - 1) {result′ : List ℕ}
           {used′ readings′ : ℕ} {short′ : Bool}
           (wrote : Wrote result result′ used readings short used′ readings′ short′
-          (linesBy full mark (slotsAt work start gone))) where
+          (linesBy full (markBy bytes gap i) (slotsAt work start gone))) where
         next-told : Told lent result′ used′ readings′ short′ (closed p B (suc i))
         next-told =
-            let e : closed p B i ++ linesBy full mark (slotsAt work start gone) ≡ closed p B (suc i) =
+            let e : closed p B i ++ linesBy full (markBy bytes gap i) (slotsAt work start gone) ≡ closed p B (suc i) =
             ap (λ (l : List Line). closed p B i ++ l)
-            ((λ z. linesBy (isFull z) (isMark z) (slotsAt work start (isGone z)))
+            ((λ z. linesBy (isFull z) (markBy bytes (isGap z) i) (slotsAt work start (isGone z)))
             ∙ closing-held p (q .pattern) plan (q .made) bytes (q .times) i h work start count (g .held))
             ∙ sym (closed-more p B i) in
             subst (λ (l : List Line). Told lent result′ used′ readings′ short′ l) e (wrote .behind lent (closed p B i) (g .told))

@@ -33,10 +33,10 @@ module _ (bytes : List ℕ) (i duration : ℕ) (work : List ℕ) (src count : �
   unfolding goneBy
   gone-gap e = rw (e, goneBy)
 
-pub mark-event : (bytes : List ℕ) (i : ℕ) → isEventBy bytes i ≡ true → 1 ≡ markBy bytes i
+pub mark-event : (bytes : List ℕ) (gap i : ℕ) → isEventBy bytes i ≡ true → 1 ≡ markBy bytes gap i
 unfolding markBy
-mark-event bytes i e = rw (e, markBy)
+mark-event bytes gap i e = rw (e, markBy)
 
-pub mark-gap : (bytes : List ℕ) (i : ℕ) → isEventBy bytes i ≡ false → 3 ≡ markBy bytes i
+pub mark-gap : (bytes : List ℕ) (gap i : ℕ) → isEventBy bytes i ≡ false → gap ≡ markBy bytes gap i
 unfolding markBy
-mark-gap bytes i e = rw (e, markBy)
+mark-gap bytes gap i e = rw (e, markBy)

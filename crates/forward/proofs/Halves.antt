@@ -4,7 +4,7 @@ use mathlib.Core.Path.{_≡_, refl, sym, ap, _∙_}
 use mathlib.Core.Logic.{_⊎_, ⊎-elim, inl, inr}
 use mathlib.Core.Bool.{Bool, false}
 use mathlib.Core.List.{List, []}
-use Prim.Native.Nat.{ℕ, _+_, _-_, _*_, _≤_}
+use Prim.Native.Nat.{ℕ, _+_, _-_, _*_, _≤_, _<_}
 use native.Mathlib.Omega.{arith}
 use lib.ListN.{length}
 use Rattle.slots.specs.Slots.{Held, slotBytes, slotsAt}
@@ -23,6 +23,10 @@ module _ {lent limit half start count : ℕ} (s : Stands lent limit half start c
 
   pub start-in : start + slotBytes * count ≤ lent
   start-in = let room = s .room in let to = s .to in let h = half-in in omega arith
+
+  -- no place is beyond what a number of 64 bits holds
+  pub start-small : start + slotBytes * count < 9223372036854775808
+  start-small = let few = s .few in let to = s .to in let h = half-in in omega arith
 
   pub halves-apart : Apart start (start + slotBytes * count) (slotBytes * limit - half) limit
   halves-apart =

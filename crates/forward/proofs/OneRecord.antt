@@ -75,7 +75,7 @@ closing-event p B k l e = rw (e, closing)
 
 closing-gap :
     (p : Pattern) (B : Block) (k : ℕ) (l : List Reading) → isEvent B k ≡ false → k < length B
-    → closing p B k l ≡ lines p gapMark l
+    → closing p B k l ≡ lines p (gapMark p) l
 unfolding closing
 closing-gap p B k l e h = rw (e, lt-ltb k (length B) h, closing)
 
@@ -174,17 +174,18 @@ module _ (p : Pattern) (o : InOrder p) (plan : List ℕ) (is : IsPlan p plan) (b
 
   -- ## What is reported
 
-  pub closing-held : linesBy (2 ^ p .n - 1) (markBy bytes i) (slotsAt work src gone) ≡ closing p B i (live p B i)
+  pub closing-held :
+      linesBy (2 ^ p .n - 1) (markBy bytes (gapMark p) i) (slotsAt work src gone) ≡ closing p B i (live p B i)
   closing-held =
       by-test (isEventBy bytes i)
       (λ e.
-      ap₂ (λ (m : ℕ) (l : List Held). linesBy (2 ^ p .n - 1) m l) (sym (mark-event bytes i e)) (front-held ∙ ap (map holding) (sym (event-take e)))
+      ap₂ (λ (m : ℕ) (l : List Held). linesBy (2 ^ p .n - 1) m l) (sym (mark-event bytes (gapMark p) i e)) (front-held ∙ ap (map holding) (sym (event-take e)))
       ∙ lines-held p (o .few) pastMark (filter (λ r. not (inWindow p B r i)) (live p B i))
       ∙ sym (closing-event p B i (live p B i) (same-event e)))
       (λ e.
-      ap₂ (λ (m : ℕ) (l : List Held). linesBy (2 ^ p .n - 1) m l) (sym (mark-gap bytes i e))
+      ap₂ (λ (m : ℕ) (l : List Held). linesBy (2 ^ p .n - 1) m l) (sym (mark-gap bytes (gapMark p) i e))
       (ap (slotsAt work src) (gone-gap bytes i (p .duration) work src count e) ∙ held)
-      ∙ lines-held p (o .few) gapMark (live p B i)
+      ∙ lines-held p (o .few) (gapMark p) (live p B i)
       ∙ sym (closing-gap p B i (live p B i) (same-event e) inside))
 
   -- ## What goes on

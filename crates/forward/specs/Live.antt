@@ -10,7 +10,7 @@ use Rattle.numbers.specs.Bits.{bit, within}
 use Rattle.records.specs.Records.{eventKind, recordAt}
 use Rattle.patterns.specs.Patterns.{mostVariables}
 use Rattle.automaton.specs.Filtering.{keep, filter, collect}
-use Rattle.rule.specs.Rule.{Line, startOf, pastMark, gapMark}
+use Rattle.rule.specs.Rule.{Line, startOf, pastMark}
 use Rattle.rule.specs.Promises.{mostBindings}
 use Rattle.rule.specs.Computed.{orElse, any, line}
 use Rattle.slots.specs.Slots.{Held, grow}
@@ -64,9 +64,9 @@ canAt plan n c bytes i = elim (isEventBy bytes i) [ true ↦ canBy plan n c byte
 
 -- ## Closing
 
--- past at an event, gap at a gap
-unfoldable pub markBy : List ℕ → ℕ → ℕ
-markBy bytes i = elim (isEventBy bytes i) [ true ↦ pastMark | false ↦ gapMark ]
+-- past at an event, the mark of a gap at a gap
+unfoldable pub markBy : List ℕ → ℕ → ℕ → ℕ
+markBy bytes gap i = elim (isEventBy bytes i) [ true ↦ pastMark | false ↦ gap ]
 
 -- record i is more than the duration after the first
 unfoldable pub isLate : List ℕ → ℕ → ℕ → Held → Bool

@@ -99,15 +99,15 @@ fn count_gone(work: &[u8], block: &[u8], i: usize, duration: u64, src: usize, co
     count
 }
 
-// The mark of the readings that close at record i.
-fn mark_at(block: &[u8], i: usize) -> u8
-    requires { ⌜ recordBytes * i + recordBytes ≤ length (now block) ⌝ }
-    ensures { λ r. ⌜ (r ≡ markBy (now (block .entry)) i) × (r < 16) ⌝ }
+// The mark of the readings that close at record i, where a gap gives the mark `gap`.
+fn mark_at(block: &[u8], i: usize, gap: u8) -> u8
+    requires { ⌜ (recordBytes * i + recordBytes ≤ length (now block)) × (gap < 16) ⌝ }
+    ensures { λ r. ⌜ (r ≡ markBy (now (block .entry)) gap i) × (r < 16) ⌝ }
 {
     if is_event(block, i) {
         return slots::PAST_MARK;
     }
-    slots::GAP_MARK
+    gap
 }
 
 // Reports one reading, or notes that the room is short.
@@ -177,6 +177,32 @@ fn close_all(
         k += 1;
     }
     told
+}
+
+// Reports the full ones of the readings from src on, `gone` of them, which close at record i. Most records close none,
+// and then no mark is asked for.
+fn close_at(
+    result: &mut [u8],
+    work: &[u8],
+    src: usize,
+    gone: usize,
+    full: u64,
+    block: &[u8],
+    i: usize,
+    gap: u8,
+    tell: Tell,
+) -> Tell
+    requires { ⌜ (src + slotBytes * gone ≤ length (now work)) × (long (slotsAt (now work) src gone) ≡ false)
+        × (recordBytes * i + recordBytes ≤ length (now block)) × (gap < 16)
+        × (tell .used ≤ length (now result)) × (tell .readings ≤ tell .used) ⌝ }
+    ensures { λ r. ⌜ Wrote (now (result .entry)) (now (result .exit)) (tell .used)
+        (tell .readings) (isSet (tell .short)) (r .used) (r .readings) (isSet (r .short))
+        (linesBy full (markBy (now (block .entry)) gap i) (slotsAt (now (work .entry)) src gone)) ⌝ }
+{
+    if gone == 0 {
+        return tell;
+    }
+    close_all(result, work, src, gone, full, mark_at(block, i, gap), tell)
 }
 
 // ## Going on
@@ -532,6 +558,7 @@ fn pass(
     ensures { λ r. ⌜ Ran p (now (block .entry)) limit (now (result .entry)) (now (result .exit)) r ⌝ }
 {
     let full = numbers::weight(p.n) - 1;
+    let gap = closings::gap_mark(plan, p.n);
     let count = block.len() / RECORD_BYTES;
     let mut stand = Stand {
         half: 0,
@@ -548,15 +575,7 @@ fn pass(
     let mut i = 0;
     while i < count {
         let gone = count_gone(work, block, i, p.duration, stand.start, stand.count);
-        tell = close_all(
-            result,
-            work,
-            stand.start,
-            gone,
-            full,
-            mark_at(block, i),
-            tell,
-        );
+        tell = close_at(result, work, stand.start, gone, full, block, i, gap, tell);
         if tell.short != 0 {
             return records::refusal(11, 0);
         }

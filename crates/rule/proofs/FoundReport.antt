@@ -63,19 +63,19 @@ module _ (p : Pattern) (B : Block) where
   -- past the window it closes
   grow-past :
       (n j : ℕ) (r : Reading) → isEvent B j ≡ true → inWindow p B r j ≡ false
-      → grow p B (suc n) j r ≡ lines p (markAt B j) (r ∷ [])
+      → grow p B (suc n) j r ≡ lines p (markAt p B j) (r ∷ [])
   unfolding grow closing markAt extend only collect filter keep
   grow-past n j r e w = rw (e, w, closing, markAt) (append-nil (lines p pastMark (r ∷ [])))
 
   -- at a gap and at the end it closes
-  grow-gap : (n j : ℕ) (r : Reading) → isEvent B j ≡ false → grow p B (suc n) j r ≡ lines p (markAt B j) (r ∷ [])
+  grow-gap : (n j : ℕ) (r : Reading) → isEvent B j ≡ false → grow p B (suc n) j r ≡ lines p (markAt p B j) (r ∷ [])
   unfolding grow closing markAt only collect
   grow-gap n j r e = rw (e, closing, markAt) (append-nil _ ∙ go (ltb j (length B)))
     where
       go :
           (t : Bool)
-          → elim t [ true ↦ lines p gapMark (r ∷ []) | false ↦ lines p endMark (r ∷ []) ]
-          ≡ lines p (elim t [ true ↦ gapMark | false ↦ endMark ]) (r ∷ [])
+          → elim t [ true ↦ lines p (gapMark p) (r ∷ []) | false ↦ lines p endMark (r ∷ []) ]
+          ≡ lines p (elim t [ true ↦ gapMark p | false ↦ endMark ]) (r ∷ [])
       go true = refl
       go false = refl
 

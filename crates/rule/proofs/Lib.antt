@@ -36,3 +36,6 @@ pub mod Alike
 pub mod WithoutWaves
 pub mod Waves
 pub mod NotEqual
+pub mod GapMarks
+pub mod LostEvents
+pub mod ShutOutMarks

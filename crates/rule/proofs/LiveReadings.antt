@@ -59,7 +59,7 @@ module _ (p : Pattern) (B : Block) where
   pub kept-new : (b : Binding) (r : Reading) → Kept p B (b ∷ r) (suc (b .at))
   kept-new b r = record { later = omega arith; passed = λ i lo hi. absurd (omega arith) }
 
-  kept-on : (r : Reading) (k : ℕ) → Kept p B r k → Passed p B r k → Kept p B r (suc k)
+  pub kept-on : (r : Reading) (k : ℕ) → Kept p B r k → Passed p B r k → Kept p B r (suc k)
   kept-on r k h q = record { later = omega arith; passed = λ i lo hi. go i lo hi (ℕ-discrete i k) }
     where
       go : (i : ℕ) → lastOf r < i → i < suc k → Dec (i ≡ k) → Passed p B r i

@@ -106,13 +106,13 @@ module _ (p : Pattern) (B : Block) where
           (s t : Bool) → isEvent B k ≡ s → ltb k (length B) ≡ t
           → List·Memᴰ x (elim s [
             | true ↦ lines p pastMark (filter (λ r. not (inWindow p B r k)) l)
-            | false ↦ elim t [ true ↦ lines p gapMark l | false ↦ lines p endMark l ]
+            | false ↦ elim t [ true ↦ lines p (gapMark p) l | false ↦ lines p endMark l ]
           ]) → Ends k x × List·Memᴰ (x .reading) l
       go true t e d h =
           let q = mem-lines pastMark _ h in
           let f = mem-filter (λ r. not (inWindow p B r k)) l (q .2) in
           (record { live = lv _ (f .1); full = q .1; how = past (event-yes p B k e) (outside (x .reading) k (f .0)) (q .0) }, f .1)
-      go false true e d h = let q = mem-lines gapMark _ h in (record { live = lv _ (q .2); full = q .1; how = gap (ltb-true k (length B) d) (event-no p B k e) (q .0) }, q .2)
+      go false true e d h = let q = mem-lines (gapMark p) _ h in (record { live = lv _ (q .2); full = q .1; how = gap (ltb-true k (length B) d) (event-no p B k e) (q .0) }, q .2)
       go false false e d h = let q = mem-lines endMark _ h in (record { live = lv _ (q .2); full = q .1; how = ended d (lv _ (q .2)) (q .0) }, q .2)
 
   pub closing-mem :
@@ -129,12 +129,12 @@ module _ (p : Pattern) (B : Block) where
           (s t : Bool) → isEvent B k ≡ s → ltb k (length B) ≡ t → Closes p B (x .reading) k (x .mark)
           → List·Memᴰ x (elim s [
             | true ↦ lines p pastMark (filter (λ r. not (inWindow p B r k)) l)
-            | false ↦ elim t [ true ↦ lines p gapMark l | false ↦ lines p endMark l ]
+            | false ↦ elim t [ true ↦ lines p (gapMark p) l | false ↦ lines p endMark l ]
           ])
       go true t e d (gap a n q) = absurd (n (event-yes p B k e))
       go true t e d (past v n q) = as-marked pastMark _ q (filter-mem (λ r. not (inWindow p B r k)) m (outside-b (x .reading) k n))
       go true t e d (end a q) = absurd (omega (arith, event-in k (event-yes p B k e)))
-      go false true e d (gap a n q) = as-marked gapMark _ q m
+      go false true e d (gap a n q) = as-marked (gapMark p) _ q m
       go false true e d (past v n q) = absurd (event-no p B k e v)
       go false true e d (end a q) = absurd (omega (arith, ltb-true k (length B) d))
       go false false e d (gap a n q) = absurd (omega (arith, ltb-false k (length B) d))
@@ -149,10 +149,10 @@ module _ (p : Pattern) (B : Block) where
           (s t : Bool)
           → Ordered Sooner (elim s [
             | true ↦ lines p pastMark (filter (λ r. not (inWindow p B r k)) l)
-            | false ↦ elim t [ true ↦ lines p gapMark l | false ↦ lines p endMark l ]
+            | false ↦ elim t [ true ↦ lines p (gapMark p) l | false ↦ lines p endMark l ]
           ])
       go true t = lines-ordered pastMark _ (ordered-filter Before _ l o)
-      go false true = lines-ordered gapMark _ o
+      go false true = lines-ordered (gapMark p) _ o
       go false false = lines-ordered endMark _ o
 
   live-mem : (k : ℕ) (r : Reading) → List·Memᴰ r (live p B k) → Live p B r k

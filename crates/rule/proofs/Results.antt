@@ -19,6 +19,7 @@ use Rattle.rule.proofs.Packing.{append-split, LineFits, AllFit, Marked,
 use Rattle.rule.proofs.EveryReading.{variable-in}
 use Rattle.rule.proofs.ReadingBounds.{bound-in, long-long}
 use Rattle.rule.proofs.Written.{written-reported}
+use Rattle.rule.proofs.GapMarks.{gap-mark-range}
 use Rattle.rule.proofs.Inputs.{InputsInOrder, input-in-order, times-never-fall, few-records}
 use Rattle.rule.proofs.Lent.{length-bytes}
 use Rattle.rule.proofs.Accepted.{CallTold}
@@ -35,9 +36,9 @@ pub checked-input :
     (pattern block : List ℕ) → InputsInOrder pattern block → CheckedInputs (patternIn pattern) (blockIn block)
 checked-input pattern block h = record { pattern = h .checked; few = few-records block (h .ordered); times = times-never-fall block (h .ordered) }
 
--- a mark is 1, 2 or 3
+-- a mark is 1, 2, 3 or 4
 mark-range : (p : Pattern) (B : Block) (r : Reading) (j m : ℕ) → Closes p B r j m → (1 ≤ m) × (m < 16)
-mark-range p B r j m (Closes.gap a b e) = omega arith
+mark-range p B r j m (Closes.gap a b e) = let q = gap-mark-range p in omega arith
 mark-range p B r j m (Closes.past a b e) = omega arith
 mark-range p B r j m (Closes.end a e) = omega arith
 

@@ -42,7 +42,7 @@ module _ (answer : Answer) (work result : List ℕ) where
 -- their results differ
 pub bench-not-empty : ¬ (resultOf fullResult benchNumbers ≡ resultOf fullResult [])
 unfolding bytesOf
-bench-not-empty e = let q : _≡_ {A = ℕ} 48 0 = ap (λ l. getD l 0 0) e in omega arith
+bench-not-empty e = let q : _≡_ {A = ℕ} 64 0 = ap (λ l. getD l 0 0) e in omega arith
 
 -- ## What is shut out
 
@@ -69,7 +69,7 @@ module _ (answer : Answer) (work result : List ℕ) where
   pub untouched-result : result ≡ replicate fullResult 1 → ¬ OfBench answer work result
   unfolding bytesOf
   untouched-result e met =
-      let q : _≡_ {A = ℕ} 1 48 = ap (λ l. getD l 0 0) (sym e ∙ bench-told answer work result met .2) in
+      let q : _≡_ {A = ℕ} 1 64 = ap (λ l. getD l 0 0) (sym e ∙ bench-told answer work result met .2) in
       omega arith
 
 -- One with a fixed list: of the bench block and of no records it must succeed, and neither its answer nor its result

@@ -72,7 +72,7 @@ module _ (answer : Answer) (result : List ℕ) where
   pub untouched-result : result ≡ replicate fullResult 1 → ¬ OfBench answer result
   unfolding bytesOf
   untouched-result e met =
-      let q : _≡_ {A = ℕ} 1 48 = ap (λ l. getD l 0 0) (sym e ∙ bench-told answer result met .1) in
+      let q : _≡_ {A = ℕ} 1 64 = ap (λ l. getD l 0 0) (sym e ∙ bench-told answer result met .1) in
       omega arith
 
   -- one that never gives 11

@@ -95,18 +95,18 @@ module _ (p : Pattern) (B : Block) (i : ℕ) where
 
 -- ## The mark that it gives
 
-module _ (B : Block) where
-  pub mark-past : (j : ℕ) → isEvent B j ≡ true → markAt B j ≡ pastMark
+module _ (p : Pattern) (B : Block) where
+  pub mark-past : (j : ℕ) → isEvent B j ≡ true → markAt p B j ≡ pastMark
   unfolding markAt
   mark-past j e = rw (e, markAt)
 
-  pub mark-gap : (j : ℕ) → j < length B → isEvent B j ≡ false → markAt B j ≡ gapMark
+  pub mark-gap : (j : ℕ) → j < length B → isEvent B j ≡ false → markAt p B j ≡ gapMark p
   unfolding markAt
   mark-gap j l e = rw (e, lt-ltb j (length B) l, markAt)
 
-  pub mark-end : (p : Pattern) → markAt B (length B) ≡ endMark
+  pub mark-end : markAt p B (length B) ≡ endMark
   unfolding markAt
-  mark-end p = by-test (isEvent B (length B)) (λ v. absurd (omega (arith, event-in p B (length B) (event-yes p B (length B) v)))) (λ v. rw (v, le-ltb (length B) (length B) (omega arith), markAt))
+  mark-end = by-test (isEvent B (length B)) (λ v. absurd (omega (arith, event-in p B (length B) (event-yes p B (length B) v)))) (λ v. rw (v, le-ltb (length B) (length B) (omega arith), markAt))
 
 -- ## Whether some step fires
 

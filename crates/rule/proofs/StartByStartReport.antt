@@ -12,7 +12,7 @@ use borrow.Author.Tests.{leb-true}
 use Rattle.patterns.specs.declared.Pattern.{Pattern}
 use Rattle.automaton.specs.Filtering.{collect}
 use Rattle.rule.specs.Rule.{Block, Binding, Reading, Line, Event, InWindow, Closes, gap, past, end, fires}
-use Rattle.rule.specs.Rule.{startOf, timeAt, Smaller, Before, sooner, smaller, TimesNeverFall}
+use Rattle.rule.specs.Rule.{gapMark, startOf, timeAt, Smaller, Before, sooner, smaller, TimesNeverFall}
 use Rattle.rule.specs.Growth.{Live, Reported, IsReport}
 use Rattle.rule.specs.Computed.{isEvent, inWindow, only, fired, extend, closing, grow, begin, startByStart}
 use Rattle.rule.specs.Computed.{report}
@@ -119,7 +119,7 @@ module _ (p : Pattern) (B : Block) where
           ¬ Event B k → Dec (k ≡ length B)
           → List·Memᴰ x (closing p B k (r ∷ []) ++ collect (grow p B n (suc k)) (only (isEvent B k) (extend p B k r)))
       last ne (yes q) = closes 2 (end q refl)
-      last ne (no q) = closes 3 (gap (omega arith) ne refl)
+      last ne (no q) = closes (gapMark p) (gap (omega arith) ne refl)
 
       go :
           ((s : Reading) → Live p B s (suc k) → From p B s x → List·Memᴰ x (grow p B n (suc k) s))

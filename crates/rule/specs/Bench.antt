@@ -22,7 +22,7 @@ use Rattle.automaton.specs.Automaton.{opens, loops, leaves, marked, carries, is
 use Rattle.automaton.specs.Steps.{stepsFrom, steps}
 use Rattle.automaton.specs.Listing.{stepBytes, stepRoom, stepsListed, listingBytes, allZero, ListingPromise}
 use Rattle.rule.specs.Rule.{Binding, Reading, Line, oldestFirst, Report, binds, choices, passes, inOrder, allowed}
-use Rattle.rule.specs.Rule.{fires, isFull}
+use Rattle.rule.specs.Rule.{fires, isFull, lastSetPlain, gapMark}
 use Rattle.rule.specs.Promises.{Outcome}
 use Rattle.rule.specs.Calls.{inputAnswer, patternIn, blockIn, zeros, roomIn, resultOf, workPerReading, mostLive}
 use Rattle.rule.specs.Calls.{mostResultBytes, ForwardCall, StartByStartCall, MeasureCall}
@@ -46,6 +46,10 @@ benchPattern =
 -- a single variable, no conditions, duration 0
 abbrev pub onePattern : List ℕ
 onePattern = 0x11 ∷ 0x00 ∷ 0x00 ∷ 0x00 ∷ 0x00 ∷ 0x00 ∷ 0x00 ∷ 0x00 ∷ 0x10 ∷ []
+
+-- the same with a group variable
+abbrev pub groupPattern : List ℕ
+groupPattern = 0x11 ∷ 0x00 ∷ 0x00 ∷ 0x00 ∷ 0x00 ∷ 0x00 ∷ 0x00 ∷ 0x00 ∷ 0x18 ∷ []
 
 -- two sets of a variable each within 100 cycles, no conditions
 abbrev pub twoPattern : List ℕ
@@ -87,11 +91,15 @@ benchBlock =
 abbrev pub coresBlock : List ℕ
 coresBlock = eventBytes 10 0 0 ++ eventBytes 20 1 0 ++ eventBytes 30 2 0
 
+-- an event, and a gap behind it
+abbrev pub lostBlock : List ℕ
+lostBlock = eventBytes 10 0 0 ++ gapBytes 20 1
+
 -- ## The table
 
 -- P1's result numbers
 abbrev pub benchNumbers : List ℕ
-benchNumbers = 12292 ∷ 0 ∷ 4098 ∷ 4099 ∷ 8196 ∷ 8196 ∷ 4104 ∷ 9 ∷ 4106 ∷ 8203 ∷ 8195 ∷ 9 ∷ 4106 ∷ 8203 ∷ []
+benchNumbers = 16388 ∷ 0 ∷ 4098 ∷ 4099 ∷ 8196 ∷ 8196 ∷ 4104 ∷ 9 ∷ 4106 ∷ 8203 ∷ 8195 ∷ 9 ∷ 4106 ∷ 8203 ∷ []
 
 -- P2's steps
 abbrev pub benchSteps : List ℕ
@@ -185,7 +193,7 @@ P10 = succeeds twoPattern (eventBytes 10 0 0 ++ eventBytes 111 0 0) fullLimit fu
 
 -- the lines that the match program prints of the bench block
 abbrev pub lineFrom0 : Line
-lineFrom0 = prints 3 (bound 0 0 ∷ bound 1 2 ∷ bound 1 3 ∷ bound 2 4 ∷ [])
+lineFrom0 = prints 4 (bound 0 0 ∷ bound 1 2 ∷ bound 1 3 ∷ bound 2 4 ∷ [])
 
 -- Rule 10.1: the lines that the match program writes of the example
 abbrev pub benchLines : List Line
@@ -200,7 +208,7 @@ benchReport = reports benchPattern benchBlock benchLines
 
 -- of the bench block up to its gap, the first of these alone
 abbrev pub frontNumbers : List ℕ
-frontNumbers = 12292 ∷ 0 ∷ 4098 ∷ 4099 ∷ 8196 ∷ []
+frontNumbers = 16388 ∷ 0 ∷ 4098 ∷ 4099 ∷ 8196 ∷ []
 
 abbrev pub front : Row
 front = succeeds benchPattern benchFront fullLimit fullWork fullResult 5 1 5 frontNumbers
@@ -219,10 +227,24 @@ otherNumbers = 4097 ∷ 0 ∷ 8193 ∷ 2 ∷ []
 abbrev pub otherCores : Row
 otherCores = succeeds otherPattern coresBlock fullLimit fullWork fullResult 4 2 1 otherNumbers
 
+-- of an event before a gap, under one group variable and under one plain variable
+abbrev pub openNumbers : List ℕ
+openNumbers = 12289 ∷ 0 ∷ []
+
+abbrev pub openGap : Row
+openGap = succeeds groupPattern lostBlock fullLimit fullWork fullResult 2 1 1 openNumbers
+
+abbrev pub completeNumbers : List ℕ
+completeNumbers = 16385 ∷ 0 ∷ []
+
+abbrev pub completeGap : Row
+completeGap = succeeds onePattern lostBlock fullLimit fullWork fullResult 2 1 1 completeNumbers
+
 -- Rule 10.2: the rows, and others that theorems use
 abbrev pub table : List Row
 table =
-    P1 ∷ P2 ∷ P3 ∷ P4 ∷ P5 ∷ P6 ∷ P7 ∷ P8 ∷ P9 ∷ P10 ∷ benchReport ∷ front ∷ frontReport ∷ oneStep ∷ otherCores ∷ []
+    P1 ∷ P2 ∷ P3 ∷ P4 ∷ P5 ∷ P6 ∷ P7 ∷ P8 ∷ P9 ∷ P10 ∷ benchReport ∷ front ∷ frontReport ∷ oneStep ∷ otherCores
+    ∷ openGap ∷ completeGap ∷ []
 
 -- the slice of a listing: eight bytes a step, and zeros behind them
 abbrev pub listingOf : ℕ → List ℕ → List ℕ
@@ -300,7 +322,7 @@ unfolding agrees limitInOrder sameOutcome sameAnswer sameLines sameReading sameL
     conditionWord formBroken conditionBroken filled patternUpTo patternOf firstBadVariable firstBadCondition
     patternAnswer conditionAt signed value constantValue orderOf comparedWith holds all keep filter collect opens loops
     leaves marked carries isState carried stepWord stepsFrom steps binds choices passes inOrder allowed fires isFull
-    inputAnswer isEvent inWindow only orElse any fired extend step live lines closing closed report isMet peak scan
-    forward isPast closesAt until markAt anyFires inTurn close skipFound startFound foundFrom foundAll linesOf leastOver
-    startAnswer measureAnswer
+    lastSetPlain gapMark inputAnswer isEvent inWindow only orElse any fired extend step live lines closing closed report
+    isMet peak scan forward isPast closesAt until markAt anyFires inTurn close skipFound startFound foundFrom foundAll
+    linesOf leastOver startAnswer measureAnswer
 table-agrees = refl

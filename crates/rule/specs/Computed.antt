@@ -65,7 +65,7 @@ unfoldable pub closing : Pattern → Block → ℕ → List Reading → List Lin
 closing p B k l =
     elim (isEvent B k) [
       | true ↦ lines p pastMark (filter (λ r. not (inWindow p B r k)) l)
-      | false ↦ elim (ltb k (length B)) [ true ↦ lines p gapMark l | false ↦ lines p endMark l ]
+      | false ↦ elim (ltb k (length B)) [ true ↦ lines p (gapMark p) l | false ↦ lines p endMark l ]
     ]
 
 -- what closes at the first k records

@@ -1,15 +1,16 @@
 -- The reading rule: which lists of bindings are readings, when they close, and what is reported.
 -- A pattern is a checked one, a block a list of records, a reading a list of bindings, the LATEST first.
 use mathlib.Core.Path.{_≡_}
-use mathlib.Core.Bool.{Bool, true, false, _&&_, _||_}
+use mathlib.Core.Bool.{Bool, true, false, not, _&&_, _||_}
 use mathlib.Core.List.{List, [], _∷_, _++_, map, List·Memᴰ}
-use Prim.Native.Nat.{ℕ, suc, _+_, _*_, _^_, _≤_, _<_}
+use Prim.Native.Nat.{ℕ, suc, _+_, _-_, _*_, _^_, _≤_, _<_}
 use lib.ListN.{length, getD}
 use lib.Dec.{ltb, eqb}
 use Rattle.records.specs.declared.Record.{Record}
 use Rattle.records.specs.Records.{eventKind, gapKind}
 use Rattle.patterns.specs.declared.Condition.{Condition}
 use Rattle.patterns.specs.declared.Pattern.{Pattern}
+use Rattle.patterns.specs.Checked.{setOf, isGroup}
 use Rattle.patterns.specs.Comparison.{holds}
 use Rattle.automaton.specs.Filtering.{implies, all, filter}
 use Rattle.automaton.specs.Automaton.{State, variablesOf, conditions, leaves, marked, carries}
@@ -139,13 +140,25 @@ pastMark = 1
 abbrev pub endMark : ℕ
 endMark = 2
 
--- Rule 5.8
-abbrev pub gapMark : ℕ
-gapMark = 3
+-- Rule 5.8: of a gap, where the last set has a group variable
+abbrev pub openMark : ℕ
+openMark = 3
+
+-- Rule 5.8: of a gap, where it has none
+abbrev pub completeMark : ℕ
+completeMark = 4
+
+-- Rule 5.8: no variable of the last set, which is that of the last variable, is a group variable
+unfoldable pub lastSetPlain : Pattern → Bool
+lastSetPlain p = all (λ v. implies (eqb (setOf p v) (setOf p (p .n - 1))) (not (isGroup p v))) (variablesOf p)
+
+-- Rule 5.8: the mark of what closes at a gap
+unfoldable pub gapMark : Pattern → ℕ
+gapMark p = elim (lastSetPlain p) [ true ↦ completeMark | false ↦ openMark ]
 
 -- Rule 5.8: what is live before record j closes there with mark m. The end of the block is record number length B.
 pub data Closes (p : Pattern) (B : Block) (r : Reading) (j m : ℕ) : Type 0 where
-  gap : j < length B → ¬ Event B j → m ≡ gapMark → Closes p B r j m
+  gap : j < length B → ¬ Event B j → m ≡ gapMark p → Closes p B r j m
   past : Event B j → ¬ InWindow p B r j → m ≡ pastMark → Closes p B r j m
   end : j ≡ length B → m ≡ endMark → Closes p B r j m
 

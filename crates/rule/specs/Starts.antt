@@ -37,13 +37,16 @@ unfoldable pub until : Pattern → Block → ℕ → ℕ
 until p B i = first (closesAt p B i) (length B)
 
 -- the mark of what closes at record j
-unfoldable pub markAt : Block → ℕ → ℕ
-markAt B j =
-    elim (isEvent B j) [ true ↦ pastMark | false ↦ elim (ltb j (length B)) [ true ↦ gapMark | false ↦ endMark ] ]
+unfoldable pub markAt : Pattern → Block → ℕ → ℕ
+markAt p B j =
+    elim (isEvent B j) [
+      | true ↦ pastMark
+      | false ↦ elim (ltb j (length B)) [ true ↦ gapMark p | false ↦ endMark ]
+    ]
 
 -- the mark of all readings that begin at record i
 abbrev pub markOf : Pattern → Block → ℕ → ℕ
-markOf p B i = markAt B (until p B i)
+markOf p B i = markAt p B (until p B i)
 
 -- ## Skip and branch
 

@@ -23,7 +23,10 @@ pub const PAST_MARK: u8 = 1;
 
 pub const END_MARK: u8 = 2;
 
+// Of a gap: whether a full reading could have taken an event that was lost, or could not.
 pub const GAP_MARK: u8 = 3;
+
+pub const GAP_COMPLETE_MARK: u8 = 4;
 
 // A binding is a number of 16 bits: the variable, then 12 bits for the record.
 const RECORD_NUMBERS: usize = 4096;

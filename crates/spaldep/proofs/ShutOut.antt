@@ -70,7 +70,7 @@ module _ (word : ℕ) (work result : List ℕ) (met : OfBench word work result) 
 
   pub forward-writes-result : ¬ (result ≡ replicate fullResult 1)
   unfolding bytesOf
-  forward-writes-result e = let q : _≡_ {A = ℕ} 1 48 = ap (λ l. getD l 0 0) (sym e ∙ told .2) in omega arith
+  forward-writes-result e = let q : _≡_ {A = ℕ} 1 64 = ap (λ l. getD l 0 0) (sym e ∙ told .2) in omega arith
 
 module _ (word : ℕ) (result : List ℕ) (met : StartByStartHost benchPattern benchBlock fullResult word result) where
   started : (word ≡ packedAnswer (gives 14 3 0 [] .answer)) × (result ≡ resultOf fullResult benchNumbers)
@@ -86,4 +86,4 @@ module _ (word : ℕ) (result : List ℕ) (met : StartByStartHost benchPattern b
 
   pub start-by-start-writes-result : ¬ (result ≡ replicate fullResult 1)
   unfolding bytesOf
-  start-by-start-writes-result e = let q : _≡_ {A = ℕ} 1 48 = ap (λ l. getD l 0 0) (sym e ∙ started .1) in omega arith
+  start-by-start-writes-result e = let q : _≡_ {A = ℕ} 1 64 = ap (λ l. getD l 0 0) (sym e ∙ started .1) in omega arith

@@ -12,27 +12,29 @@ use Rattle.numbers.proofs.Cases.{by-test}
 use Rattle.records.specs.Records.{recordAt, recordCount, recordsOf, eventKind}
 use Rattle.records.proofs.Listed.{length-records}
 use Rattle.patterns.specs.declared.Pattern.{Pattern}
-use Rattle.rule.specs.Rule.{Block, fires}
+use Rattle.rule.specs.Rule.{Block, fires, gapMark}
 use Rattle.automaton.proofs.Membership.{upto-mem, collect-mem}
 use Rattle.rule.specs.Starts.Found.{over}
 use Rattle.rule.specs.Starts.{Found, until, markOf, withBinding, skipUntil, startFound, foundFrom, foundAll}
 use Rattle.rule.proofs.SkipBranch.{start-event, found-end, found-all, found-first}
 use Rattle.rule.proofs.SkipBranch.{start-gap as found-gap}
 use Rattle.slots.specs.Slots.{slotBytes, countIn, heldIn}
+use Rattle.closings.proofs.GapMarks.{gap-mark-by}
 use Rattle.reach.specs.declared.Start.{Start}
 use Rattle.starts.specs.declared.Counts.{Counts}
-use Rattle.starts.specs.declared.Window.{Window}
+use Rattle.closings.specs.declared.Window.{Window}
 use Rattle.starts.specs.Sinks.{Sink, sinkOf, stop, emits, Same}
 use Rattle.starts.specs.Sinks.Same.{equal}
 use Rattle.reach.specs.Readings.{firingBy, leavingBy, Cans, Usable, Of}
 use Rattle.reach.proofs.Masks.{first-read}
 use Rattle.starts.specs.Skips.{By, Firing, Branching, Settled, giveUp, Branched, branchOver}
-use Rattle.starts.specs.Skips.{OpenTo, WindowIs, AllStarted}
+use Rattle.starts.specs.Skips.{AllStarted}
+use Rattle.closings.specs.Closings.{gapMarkBy, OpenTo, WindowIs}
 use Rattle.sweep.specs.Floors.{Floor}
 use Rattle.starts.proofs.Sinks.{emits-append}
 use Rattle.starts.proofs.Same.{same-refl, same-trans, same-emits, cut}
 use Rattle.reach.proofs.Readings.{nothing, firing-begins, firing-bound, empty-reads}
-use Rattle.starts.proofs.Windows.{is-event, is-gap, open-later}
+use Rattle.closings.proofs.Windows.{is-event, is-gap, open-later}
 use Rattle.reach.proofs.MaskInTurn.{turn-none, mask-turn, low-bits}
 use Rattle.starts.proofs.Skips.{few-bits, all-taken, settled-idle}
 
@@ -42,6 +44,13 @@ found-mem :
     → List·Memᴰ x (foundAll p B)
 unfolding foundAll foundFrom
 found-mem p B i l m = collect-mem (startFound p B) (upto-mem 0 (length B) i (omega arith) (omega arith)) m
+
+-- the mark of a gap by the plan is that of each pattern that the plan is made of
+pub gap-of :
+    (plan bytes : List ℕ) (n c gap : ℕ) → gap ≡ gapMarkBy plan n → (p : Pattern) → Of p plan bytes n c
+    → gapMark p ≡ gap
+gap-of plan bytes n c gap e p o =
+    sym (gap-mark-by p (o .order) plan (o .made)) ∙ ap (gapMarkBy plan) (sym (o .variables)) ∙ sym e
 
 -- what is found from record i, unless the start was given up
 pub record Started (plan bytes : List ℕ) (n c duration most i : ℕ) (before after : Sink) : Type 0 where
@@ -89,7 +98,8 @@ module _ (plan bytes : List ℕ) (n c duration most i : ℕ) (usable : Usable pl
         (λ t. started-gap (eqb-false (recordAt bytes i .kind) eventKind t) before)
 
     module _ (event : recordAt bytes i .kind ≡ eventKind) (slot : List ℕ) (none : heldIn slot ≡ nothing) (s : Start)
-        (w : Window) (window : WindowIs bytes duration i w)
+        (gap : ℕ) (of-gap : (p : Pattern) → Of p plan bytes n c → gapMark p ≡ gap) (w : Window)
+        (window : WindowIs bytes duration gap i w)
         (is-start : s ≡ record {
           n = n;
           c = c;
@@ -137,7 +147,7 @@ module _ (plan bytes : List ℕ) (n c duration most i : ℕ) (usable : Usable pl
           ≡ startFound p (recordsOf bytes) i
       start-list p o =
           let q = by-call p o in
-          (λ k. branchOver p (recordsOf bytes) ((same-mark ∙ window .mark p (q .1)) k) ((same-until ∙ window .closes p (q .1)) k) i (none k .bindings) firing)
+          (λ k. branchOver p (recordsOf bytes) ((same-mark ∙ window .mark p (q .1) (of-gap p (q .0))) k) ((same-until ∙ window .closes p (q .1)) k) i (none k .bindings) firing)
           ∙ sym (start-over event p (q .0))
 
       start-firing : length slot ≡ slotBytes → countIn slot ≡ 0 → Firing plan bytes s slot i firing

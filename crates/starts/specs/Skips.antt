@@ -3,23 +3,22 @@
 use mathlib.Core.Path.{_≡_}
 use mathlib.Core.Bool.{true}
 use mathlib.Core.List.{List, List·Memᴰ}
-use Prim.Native.Nat.{ℕ, suc, _+_, _≤_, _<_, _^_}
+use Prim.Native.Nat.{ℕ, suc, _≤_, _<_, _^_}
 use lib.ListN.{length}
 use Rattle.numbers.specs.Bits.{bit}
-use Rattle.records.specs.Records.{recordAt, recordCount, recordsOf, eventKind}
+use Rattle.records.specs.Records.{recordsOf}
 use Rattle.records.specs.Blocks.{mostRecords}
 use Rattle.patterns.specs.declared.Pattern.{Pattern}
 use Rattle.patterns.specs.Patterns.{mostVariables}
 use Rattle.rule.specs.Rule.{Block, Reading}
 use Rattle.rule.specs.Promises.{mostBindings}
 use Rattle.rule.specs.Starts.Found.{over}
-use Rattle.rule.specs.Starts.{Found, until, markOf, withBinding, inTurn, close, skipUntil, foundAll}
+use Rattle.rule.specs.Starts.{Found, until, withBinding, inTurn, close, skipUntil, foundAll}
 use Rattle.slots.specs.Slots.{countIn, heldIn}
 use Rattle.reach.specs.declared.Start.{Start}
 use Rattle.reach.specs.Readings.{firingBy, Ready, Of}
 use Rattle.reach.specs.Growing.{NeverFull}
 use Rattle.starts.specs.declared.Counts.{Counts}
-use Rattle.starts.specs.declared.Window.{Window}
 use Rattle.starts.specs.Sinks.{Sink, sinkOf, emits, noneYet, Same}
 
 -- ## What is handed on
@@ -121,20 +120,6 @@ pub record Branched (plan bytes : List ℕ) (s : Start) (slot : List ℕ) (j fir
       after
 
 -- ## Starts
-
--- records i + 1 to k are events of the window of record i
-pub record OpenTo (bytes : List ℕ) (duration i k : ℕ) : Type 0 where
-  pub event : (q : ℕ) → i < q → q < k → recordAt bytes q .kind ≡ eventKind
-  pub near : (q : ℕ) → i < q → q < k → recordAt bytes q .time ≤ recordAt bytes i .time + duration
-
--- s is what record i fixes as the first of a reading
-pub record WindowIs (bytes : List ℕ) (duration i : ℕ) (s : Window) : Type 0 where
-  pub after : i < s .until
-  pub block : s .until ≤ recordCount bytes
-  pub opened : OpenTo bytes duration i (s .until)
-  pub small : s .mark < 16
-  pub closes : (p : Pattern) → p .duration ≡ duration → s .until ≡ until p (recordsOf bytes) i
-  pub mark : (p : Pattern) → p .duration ≡ duration → s .mark ≡ markOf p (recordsOf bytes) i
 
 -- from each record in turn, unless a start was given up
 pub record AllStarted (plan bytes : List ℕ) (n c duration most limit : ℕ) (before after : Sink) : Type 0 where

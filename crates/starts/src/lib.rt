@@ -1,11 +1,9 @@
 // The start-by-start pass, and measure.
 ghost use mathlib.Core.Path.{_≡_};
 ghost use mathlib.Core.Bool.{true, false};
-ghost use Prim.Native.Nat.{_+_, _-_, _*_, _^_, _/_, _<_, _≤_, min, max};
-ghost use lib.Dec.{ltb};
+ghost use Prim.Native.Nat.{_+_, _-_, _*_, _^_, _/_, _<_, _≤_, min};
 ghost use lib.ListN.{length, replicate};
 ghost use Rattle.numbers.specs.Bits.{within};
-ghost use Rattle.records.specs.Records.{recordCount};
 ghost use Rattle.records.specs.Blocks.{InOrder as BlockInOrder, mostRecords};
 ghost use Rattle.patterns.specs.Checked.{InOrder};
 ghost use Rattle.patterns.specs.Patterns.{mostVariables};
@@ -17,7 +15,7 @@ ghost use Rattle.starts.specs.Sinks.{sinkOf, sum as sumTo, emit, noneYet
 ghost use Rattle.reach.specs.Readings.{Cans, Reads, Usable, Ready};
 ghost use Rattle.starts.specs.Skips.{Above, Taking, Branching, Mute, Settled, patience};
 ghost use Rattle.sweep.specs.Floors.{Floor};
-ghost use Rattle.starts.specs.Skips.{Closed, Skipped, Branched, OpenTo, WindowIs, AllStarted, Passed};
+ghost use Rattle.starts.specs.Skips.{Closed, Skipped, Branched, AllStarted, Passed};
 
 // The number of no record.
 const NO_RECORD: u32 = records::MOST_RECORDS as u32;
@@ -41,12 +39,6 @@ pub struct Counts {
     pub readings: usize,
     pub least: u32,
     pub steps: u32,
-}
-
-// Where the readings of a start close, and their mark.
-pub struct Window {
-    pub until: usize,
-    pub mark: u8,
 }
 
 // ## What is written and counted
@@ -326,53 +318,6 @@ fn branch(
 
 // ## Starts
 
-// Whether a time is more than the duration after the first.
-fn is_past(first: u64, duration: u64, time: u64) -> bool
-    ensures { λ r. ⌜ r ≡ ltb (first + duration) time ⌝ }
-{
-    if time < first {
-        return false;
-    }
-    duration < time - first
-}
-
-// The larger of two.
-fn larger(a: usize, b: usize) -> usize
-    ensures { λ r. ⌜ r ≡ max a b ⌝ }
-{
-    if a < b { b } else { a }
-}
-
-// What record i fixes as the first of a reading; no record before `opened` closes it.
-fn window_at(block: &[u8], duration: u64, i: usize, opened: usize) -> Window
-    requires { ⌜ (i < recordCount (now block)) × (opened ≤ recordCount (now block))
-        × OpenTo (now block) duration i opened ⌝ }
-    ensures { λ s. ⌜ WindowIs (now (block .entry)) duration i s ⌝ }
-{
-    let first = records::time_at(block, i);
-    let count = block.len() / records::RECORD_BYTES;
-    let mut k = larger(i + 1, opened);
-    while k < count {
-        if records::kind_at(block, k) != records::EVENT {
-            return Window {
-                until: k,
-                mark: slots::GAP_MARK,
-            };
-        }
-        if is_past(first, duration, records::time_at(block, k)) {
-            return Window {
-                until: k,
-                mark: slots::PAST_MARK,
-            };
-        }
-        k += 1;
-    }
-    Window {
-        until: count,
-        mark: slots::END_MARK,
-    }
-}
-
 // How many branches a start counts before its first: none, or as many as are taken before each is asked what it can
 // still come to, where a binding too many is known or the counts are told.
 fn first_steps(counts: Counts, room: usize, most: usize) -> u32
@@ -426,6 +371,7 @@ fn each_start(
         least: NO_RECORD,
         steps: 0,
     };
+    let gap = closings::gap_mark(plan, n);
     let first = reach::leaving(plan, n, 0);
     let empty = slots::empty_slot();
     let count = block.len() / records::RECORD_BYTES;
@@ -441,7 +387,7 @@ fn each_start(
             i += 1;
             continue;
         }
-        let w = window_at(block, duration, i, opened);
+        let w = closings::window_at(block, duration, i, opened, gap);
         opened = w.until;
         counts = begun(counts, first_steps(counts, result.len() / 2, most));
         let s = reach::Start {

@@ -10,51 +10,55 @@ use Rattle.numbers.proofs.Cases.{by-order}
 use Rattle.records.specs.Records.{recordCount}
 use Rattle.starts.specs.declared.Counts.{Counts}
 use Rattle.starts.specs.Sinks.{sinkOf, noneYet}
-use Rattle.starts.specs.Skips.{OpenTo, giveUp}
+use Rattle.closings.specs.Closings.{OpenTo}
+use Rattle.starts.specs.Skips.{giveUp}
 use Rattle.reach.proofs.Masks.{read-bound, first-read}
-use Rattle.starts.proofs.Windows.{open-none, open-later}
-use Rattle.starts.proofs.Starts.{started-gap, start-branching, started-settled, started-branch, Left, left-all}
-use Rattle.starts.proofs.Starts.{left-more, left-begun, left-none, left-passed, open-passed}
+use Rattle.closings.proofs.Windows.{open-none, open-later}
+use Rattle.starts.proofs.Starts.{gap-of, started-gap, start-branching, started-settled, started-branch, Left}
+use Rattle.starts.proofs.Starts.{left-all, left-more, left-begun, left-none, left-passed, open-passed}
 use Rattle.starts.proofs.each_start.Statement.{statement}
 use Rattle.starts.proofs.each_start.Tie as tie
 
 abbrev Inv-loop : tie.InvT-loop
-Inv-loop block plan n c duration cans floor most limit result₀ counts₀ first empty count opened₀ i₀ result counts opened i = (i ≤ count) × (count ≡ recordCount block) × (length result ≡ length result₀) × Left plan block n c duration most i (sinkOf result₀ noneYet) (sinkOf result counts) × (counts .steps < giveUp) × (opened ≤ count) × OpenTo block duration i opened
+Inv-loop block plan n c duration cans floor most limit result₀ counts₀ gap first empty count opened₀ i₀ result counts opened i = (i ≤ count) × (count ≡ recordCount block) × (length result ≡ length result₀) × Left plan block n c duration most i (sinkOf result₀ noneYet) (sinkOf result counts) × (counts .steps < giveUp) × (opened ≤ count) × OpenTo block duration i opened
 
 abbrev μ-loop : tie.MeasureT-loop
-μ-loop block plan n c duration cans floor most limit result₀ counts₀ first empty count opened₀ i₀ result counts opened i = count - i
+μ-loop block plan n c duration cans floor most limit result₀ counts₀ gap first empty count opened₀ i₀ result counts opened i = count - i
+
+gap-mark-requires : tie.Need-gap-mark-requires Inv-loop μ-loop
+gap-mark-requires c κs = let usable = c .before .before .pre .0 in (usable .sound .size, usable .variables)
 
 leaving-requires : tie.Need-leaving-requires Inv-loop μ-loop
-leaving-requires c κs = let usable = c .before .before .pre .0 in (usable .sound .size, usable .variables)
+leaving-requires c κs = let usable = c .before .before .before .pre .0 in (usable .sound .size, usable .variables)
 
 empty-slot-requires : tie.Need-empty-slot-requires Inv-loop μ-loop
 empty-slot-requires c κs = search needs
 
 loop-holds : tie.Need-loop-holds Inv-loop μ-loop
 loop-holds c =
-    let a = c .before .before .before .before .args in
+    let a = c .before .before .before .before .before .args in
     (search needs, refl, refl, left-all (a .plan .now) (a .block .now) (a .n) (a .c) (a .duration) (a .most) (sinkOf (a .result .now) noneYet), omega arith, search needs, open-none (a .block .now) (a .duration) 0)
 
 mul-firing : tie.Need-mul-firing Inv-loop μ-loop
-mul-firing c = let st = c .before .before .before .before .before .before in omega (arith, st .pre .0 .records, c .loop-test .taken)
+mul-firing c = let st = c .before .before .before .before .before .before .before in omega (arith, st .pre .0 .records, c .loop-test .taken)
 
 element-copy-out-firing : tie.Need-element-copy-out-firing Inv-loop μ-loop
-element-copy-out-firing c = let st = c .before .before .before .before .before .before in omega (arith, st .pre .0 .records, c .loop-test .taken)
+element-copy-out-firing c = let st = c .before .before .before .before .before .before .before in omega (arith, st .pre .0 .records, c .loop-test .taken)
 
 cast-firing : tie.Need-cast-firing Inv-loop μ-loop
 cast-firing c =
-    let st = c .before .before .before .before .before .before .before in
+    let st = c .before .before .before .before .before .before .before .before in
     let a = st .args in
     let h = c .before .before .loop in
     let small = read-bound (a .plan .now) (a .block .now) (a .n) (a .c) (st .pre .0 .variables) (a .cans .now) (st .pre .1) (h .i) (c .before .loop-test .taken) in
     omega arith
 
 add-next-can : tie.Need-add-next-can Inv-loop μ-loop
-add-next-can c = omega (arith, c .before .before .loop-test .taken, c .before .before .before .before .before .before .before .before .pre .0 .records)
+add-next-can c = omega (arith, c .before .before .loop-test .taken, c .before .before .before .before .before .before .before .before .before .pre .0 .records)
 
 next-can-requires : tie.Need-next-can-requires Inv-loop μ-loop
 next-can-requires c κs =
-    let st = c .before .before .before .before .before .before .before .before in
+    let st = c .before .before .before .before .before .before .before .before .before in
     let a = st .args in
     let records = st .pre .0 .records in
     let inside = c .before .before .loop-test .taken in
@@ -71,7 +75,7 @@ loop-less c =
 
 loop-again : tie.Need-loop-again Inv-loop μ-loop
 loop-again c =
-    let st = c .before .before .before .before .before .before .before .before .before in
+    let st = c .before .before .before .before .before .before .before .before .before .before in
     let a = st .args in
     let h = c .before .before .before .before .loop in
     let first = c .before .before .before .before .before .before .leaving in
@@ -105,7 +109,7 @@ loop-less-2 c = search needs
 
 loop-again-2 : tie.Need-loop-again-2 Inv-loop μ-loop
 loop-again-2 c =
-    let st = c .before .before .before .before .before .before .before .before .before .before in
+    let st = c .before .before .before .before .before .before .before .before .before .before .before in
     let a = st .args in
     let h = c .before .before .before .before .before .loop in
     let inside = c .before .before .before .before .loop-test .taken in
@@ -124,7 +128,8 @@ loop-again-2 c =
 window-at-requires : tie.Need-window-at-requires Inv-loop μ-loop
 window-at-requires c κs =
     let h = c .before .before .before .before .before .loop in
-    (c .before .before .before .before .loop-test .taken, h .inv .5, h .inv .6)
+    let gap = c .before .before .before .before .before .before .before .before .gap-mark in
+    (c .before .before .before .before .loop-test .taken, h .inv .5, h .inv .6, gap .ensures .1)
 
 first-steps-requires : tie.Need-first-steps-requires Inv-loop μ-loop
 first-steps-requires c κs = search needs
@@ -137,11 +142,12 @@ slice-aggregate-is-settled c = search needs
 
 is-settled-requires : tie.Need-is-settled-requires Inv-loop μ-loop
 is-settled-requires c κs =
-    let st = c .before .before .before .before .before .before .before .before .before .before .before .before .before .before .before .before in
+    let st = c .before .before .before .before .before .before .before .before .before .before .before .before .before .before .before .before .before in
     let a = st .args in
     let h = c .before .before .before .before .before .before .before .before .before .before .before .loop in
     let inside = c .before .before .before .before .before .before .before .before .before .before .loop-test .taken in
     let first = c .before .before .before .before .before .before .before .before .before .before .before .before .before .leaving in
+    let gap = c .before .before .before .before .before .before .before .before .before .before .before .before .before .before .gap-mark in
     let empty = c .before .before .before .before .before .before .before .before .before .before .before .before .empty-slot in
     let w = c .before .before .before .before .before .window-at in
     let event = c .before .before .before .before .before .before .if2 .left in
@@ -159,7 +165,7 @@ is-settled-requires c κs =
       most = a .most;
       limit = a .limit;
     })
-    (w .result) (w .ensures) refl (empty .ensures .1) (empty .ensures .2) some (st .pre .2) in
+    (gap .result) (gap-of (a .plan .now) (a .block .now) (a .n) (a .c) (gap .result) (gap .ensures .0)) (w .result) (w .ensures) refl (empty .ensures .1) (empty .ensures .2) some (st .pre .2) in
     (at .fire .ready, st .pre .1, at .above)
 
 add-i-2 : tie.Need-add-i-2 Inv-loop μ-loop
@@ -170,11 +176,12 @@ loop-less-3 c = search needs
 
 loop-again-3 : tie.Need-loop-again-3 Inv-loop μ-loop
 loop-again-3 c =
-    let st = c .before .before .before .before .before .before .before .before .before .before .before .before .before .before .before .before .before .before in
+    let st = c .before .before .before .before .before .before .before .before .before .before .before .before .before .before .before .before .before .before .before in
     let a = st .args in
     let h = c .before .before .before .before .before .before .before .before .before .before .before .before .before .loop in
     let inside = c .before .before .before .before .before .before .before .before .before .before .before .before .loop-test .taken in
     let first = c .before .before .before .before .before .before .before .before .before .before .before .before .before .before .before .leaving in
+    let gap = c .before .before .before .before .before .before .before .before .before .before .before .before .before .before .before .before .gap-mark in
     let empty = c .before .before .before .before .before .before .before .before .before .before .before .before .before .before .empty-slot in
     let w = c .before .before .before .before .before .before .before .window-at in
     let event = c .before .before .before .before .before .before .before .before .if2 .left in
@@ -199,7 +206,7 @@ loop-again-3 c =
       most = a .most;
       limit = a .limit;
     })
-    (w .result) (w .ensures) refl (empty .ensures .1) (empty .ensures .2) some (st .pre .2)
+    (gap .result) (gap-of (a .plan .now) (a .block .now) (a .n) (a .c) (gap .result) (gap .ensures .0)) (w .result) (w .ensures) refl (empty .ensures .1) (empty .ensures .2) some (st .pre .2)
     (h .result) (begun .result) (c .before .is-settled .ensures (c .if4 .taken)) (omega arith) (omega arith) in (
       search needs,
       refl,
@@ -215,11 +222,12 @@ slice-aggregate-branch c = search needs
 
 branch-requires : tie.Need-branch-requires Inv-loop μ-loop
 branch-requires c κs =
-    let st = c .before .before .before .before .before .before .before .before .before .before .before .before .before .before .before .before .before in
+    let st = c .before .before .before .before .before .before .before .before .before .before .before .before .before .before .before .before .before .before in
     let a = st .args in
     let h = c .before .before .before .before .before .before .before .before .before .before .before .before .loop in
     let inside = c .before .before .before .before .before .before .before .before .before .before .before .loop-test .taken in
     let first = c .before .before .before .before .before .before .before .before .before .before .before .before .before .before .leaving in
+    let gap = c .before .before .before .before .before .before .before .before .before .before .before .before .before .before .before .gap-mark in
     let empty = c .before .before .before .before .before .before .before .before .before .before .before .before .before .empty-slot in
     let w = c .before .before .before .before .before .before .window-at in
     let event = c .before .before .before .before .before .before .before .if2 .left in
@@ -237,7 +245,7 @@ branch-requires c κs =
             most = a .most;
             limit = a .limit;
           })
-          (w .result) (w .ensures) refl (empty .ensures .1) (empty .ensures .2) some (st .pre .2),
+          (gap .result) (gap-of (a .plan .now) (a .block .now) (a .n) (a .c) (gap .result) (gap .ensures .0)) (w .result) (w .ensures) refl (empty .ensures .1) (empty .ensures .2) some (st .pre .2),
       st .pre .1,
     )
 
@@ -250,7 +258,7 @@ returns c =
     let begun = c .before .before .before .before .before .before .before .before .before .begun in
     let none = ap (λ (x : Counts). x .steps) (begun .ensures) in
     let few = c .before .before .before .before .before .before .before .before .before .before .first-steps .ensures in
-    let least = c .before .before .before .before .before .before .before .before .before .before .before .before .before .before .before .before .before .before .before .before .before .before .pre .3 in
+    let least = c .before .before .before .before .before .before .before .before .before .before .before .before .before .before .before .before .before .before .before .before .before .before .before .pre .3 in
     let many = c .if5 .taken in
     record {
       bounded = λ small. let end = call .ensures .led .bounded (omega arith) in absurd (omega arith);
@@ -258,18 +266,19 @@ returns c =
     }
 
 add-i-3 : tie.Need-add-i-3 Inv-loop μ-loop
-add-i-3 c = omega (arith, c .before .before .before .before .before .before .before .before .before .before .before .before .before .before .before .before .loop-test .taken, c .before .before .before .before .before .before .before .before .before .before .before .before .before .before .before .before .before .before .before .before .before .before .pre .0 .records)
+add-i-3 c = omega (arith, c .before .before .before .before .before .before .before .before .before .before .before .before .before .before .before .before .loop-test .taken, c .before .before .before .before .before .before .before .before .before .before .before .before .before .before .before .before .before .before .before .before .before .before .before .pre .0 .records)
 
 loop-less-4 : tie.Need-loop-less-4 Inv-loop μ-loop
 loop-less-4 c = search needs
 
 loop-again-4 : tie.Need-loop-again-4 Inv-loop μ-loop
 loop-again-4 c =
-    let st = c .before .before .before .before .before .before .before .before .before .before .before .before .before .before .before .before .before .before .before .before .before .before in
+    let st = c .before .before .before .before .before .before .before .before .before .before .before .before .before .before .before .before .before .before .before .before .before .before .before in
     let a = st .args in
     let h = c .before .before .before .before .before .before .before .before .before .before .before .before .before .before .before .before .before .loop in
     let inside = c .before .before .before .before .before .before .before .before .before .before .before .before .before .before .before .before .loop-test .taken in
     let first = c .before .before .before .before .before .before .before .before .before .before .before .before .before .before .before .before .before .before .before .leaving in
+    let gap = c .before .before .before .before .before .before .before .before .before .before .before .before .before .before .before .before .before .before .before .before .gap-mark in
     let empty = c .before .before .before .before .before .before .before .before .before .before .before .before .before .before .before .before .before .before .empty-slot in
     let w = c .before .before .before .before .before .before .before .before .before .before .before .window-at in
     let event = c .before .before .before .before .before .before .before .before .before .before .before .before .if2 .left in
@@ -297,7 +306,7 @@ loop-again-4 c =
       most = a .most;
       limit = a .limit;
     })
-    (w .result) (w .ensures) refl (empty .ensures .1) (empty .ensures .2) some (st .pre .2)
+    (gap .result) (gap-of (a .plan .now) (a .block .now) (a .n) (a .c) (gap .result) (gap .ensures .0)) (w .result) (w .ensures) refl (empty .ensures .1) (empty .ensures .2) some (st .pre .2)
     then after ended (call .ensures) in (
       search needs,
       refl,
@@ -313,7 +322,7 @@ same-length-2 c = search needs
 
 returns-2 : tie.Need-returns-2 Inv-loop μ-loop
 returns-2 c =
-    let st = c .before .before .before .before .before .before in
+    let st = c .before .before .before .before .before .before .before in
     let a = st .args in
     let h = c .before .loop in
     left-none (a .plan .now) (a .block .now) (a .n) (a .c) (a .duration) (a .most) (sinkOf (a .result .now) noneYet) (h .i) (sinkOf (h .result) (h .counts)) (h .inv .3) (search needs) (a .limit) (h .inv .4)
@@ -324,6 +333,7 @@ each-start-spec =
     (tie.spec
     Inv-loop
     μ-loop
+    gap-mark-requires
     leaving-requires
     empty-slot-requires
     loop-holds

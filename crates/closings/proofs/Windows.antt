@@ -21,7 +21,7 @@ use Rattle.rule.specs.Computed.{isEvent}
 use Rattle.rule.specs.Starts.{isPast, closesAt, until, markAt}
 use Rattle.rule.proofs.SkipBranch.{stays-open, closes-gap, closes-past, until-at, until-end, mark-past, mark-gap}
 use Rattle.rule.proofs.SkipBranch.{mark-end}
-use Rattle.starts.specs.Skips.{OpenTo, WindowIs}
+use Rattle.closings.specs.Closings.{OpenTo, WindowIs}
 
 module _ (bytes : List ℕ) where
   abbrev B : Block
@@ -64,48 +64,46 @@ module _ (bytes : List ℕ) where
         }
 
     window-by :
-        (mark : ℕ) → mark < 16 → ((p : Pattern) → p .duration ≡ duration → until p B i ≡ k) → markAt B k ≡ mark
-        → WindowIs bytes duration i (record { until = k; mark = mark })
-    window-by mark small u m =
+        (gap mark : ℕ) → mark < 16 → ((p : Pattern) → p .duration ≡ duration → until p B i ≡ k)
+        → ((p : Pattern) → gapMark p ≡ gap → markAt p B k ≡ mark)
+        → WindowIs bytes duration gap i (record { until = k; mark = mark })
+    window-by gap mark small u m =
         record {
           after = l;
           block = few;
           opened = opened;
           small = small;
           closes = λ p d. sym (u p d);
-          mark = λ p d. sym m ∙ ap (markAt B) (sym (u p d));
+          mark = λ p d g. sym (m p g) ∙ ap (markAt p B) (sym (u p d));
         }
 
     pub window-gap :
-        k < recordCount bytes → (recordAt bytes k .kind ≡ eventKind → ⊥)
-        → WindowIs bytes duration i (record { until = k; mark = gapMark })
-    window-gap inside e =
+        (gap : ℕ) → gap < 16 → k < recordCount bytes → (recordAt bytes k .kind ≡ eventKind → ⊥)
+        → WindowIs bytes duration gap i (record { until = k; mark = gap })
+    window-gap gap small inside e =
         let z : k < length B = omega (arith, length-records bytes) in
-        window-by gapMark (omega arith)
+        window-by gap gap small
         (λ p d. until-at p B i k z (none-closes p d) (closes-gap p B i k l (is-gap k inside e)))
-        (mark-gap B k z (is-gap k inside e))
+        (λ p g. mark-gap p B k z (is-gap k inside e) ∙ g)
 
     pub window-past :
-        k < recordCount bytes → recordAt bytes k .kind ≡ eventKind
+        (gap : ℕ) → k < recordCount bytes → recordAt bytes k .kind ≡ eventKind
         → ltb (recordAt bytes i .time + duration) (recordAt bytes k .time) ≡ true
-        → WindowIs bytes duration i (record { until = k; mark = pastMark })
-    window-past inside e t =
+        → WindowIs bytes duration gap i (record { until = k; mark = pastMark })
+    window-past gap inside e t =
         let z : k < length B = omega (arith, length-records bytes) in
-        window-by pastMark (omega arith)
+        window-by gap pastMark (omega arith)
         (λ p d. until-at p B i k z (none-closes p d) (closes-past p B i k l (is-event k inside e)
         (past-by p i k (omega arith) inside ∙ ap (λ (x : ℕ). ltb (recordAt bytes i .time + x) (recordAt bytes k .time)) d ∙ t)))
-        (mark-past B k (is-event k inside e))
+        (λ p g. mark-past p B k (is-event k inside e))
 
     pub window-end :
-        recordCount bytes ≤ k → WindowIs bytes duration i (record { until = k; mark = endMark })
-    window-end end =
+        (gap : ℕ) → recordCount bytes ≤ k → WindowIs bytes duration gap i (record { until = k; mark = endMark })
+    window-end gap end =
         let z : k ≡ length B = omega (arith, length-records bytes) in
-        window-by endMark (omega arith)
+        window-by gap endMark (omega arith)
         (λ p d. until-end p B i (λ q a b. none-closes p d q a (omega arith)) ∙ sym z)
-        (ap (markAt B) z ∙ mark-end B anyPattern)
-      where
-        anyPattern : Pattern
-        anyPattern = Rattle.patterns.specs.Checked.blank
+        (λ p g. ap (markAt p B) z ∙ mark-end p B)
 
 pub open-none : (bytes : List ℕ) (duration i : ℕ) → OpenTo bytes duration i 0
 open-none bytes duration i = record { event = λ q a b. absurd (omega arith); near = λ q a b. absurd (omega arith) }

@@ -1,20 +1,20 @@
--- `starts::window_at` meets its contract: the first gap, the first record past the window, or the end. Assumes nothing.
+-- `closings::window_at` meets its contract: the first gap, the first record past the window, or the end. Assumes nothing.
 use native.Mathlib.Omega.{arith}
 use mathlib.Core.Path.{_≡_, refl, sym, subst, _∙_}
 use Prim.Native.Nat.{ℕ, _+_, _-_, _≤_, _<_}
 use borrow.Author.Tests.{ltb-false}
 use Rattle.records.specs.Records.{recordAt, recordCount}
-use Rattle.starts.specs.Skips.{OpenTo, WindowIs}
-use Rattle.starts.proofs.Windows.{open-from, open-more, window-gap, window-past, window-end}
+use Rattle.closings.specs.Closings.{OpenTo, WindowIs}
+use Rattle.closings.proofs.Windows.{open-from, open-more, window-gap, window-past, window-end}
 use borrow.Author.Needs.{needs}
-use Rattle.starts.proofs.window_at.Statement.{statement}
-use Rattle.starts.proofs.window_at.Tie as tie
+use Rattle.closings.proofs.window_at.Statement.{statement}
+use Rattle.closings.proofs.window_at.Tie as tie
 
 abbrev Inv-loop : tie.InvT-loop
-Inv-loop block duration i opened first count k₀ k = (i < k) × (k ≤ count) × (count ≡ recordCount block) × (first ≡ recordAt block i .time) × OpenTo block duration i k
+Inv-loop block duration i opened gap first count k₀ k = (i < k) × (k ≤ count) × (count ≡ recordCount block) × (first ≡ recordAt block i .time) × OpenTo block duration i k
 
 abbrev μ-loop : tie.MeasureT-loop
-μ-loop block duration i opened first count k₀ k = count - k
+μ-loop block duration i opened gap first count k₀ k = count - k
 
 time-at-requires : tie.Need-time-at-requires Inv-loop μ-loop
 time-at-requires c κs = omega arith
@@ -42,10 +42,11 @@ kind-at-requires c κs = omega arith
 
 returns : tie.Need-returns Inv-loop μ-loop
 returns c =
-    let a = c .before .before .before .before .before .before .before .args in
+    let st = c .before .before .before .before .before .before .before in
+    let a = st .args in
     let h = c .before .before .before .loop in
     let kind = c .before .kind-at .ensures in
-    window-gap (a .block .now) (a .duration) (a .i) (h .k) (h .inv .0) (omega arith) (h .inv .4) (omega arith) (λ e. c .if1 .taken (kind ∙ e))
+    window-gap (a .block .now) (a .duration) (a .i) (h .k) (h .inv .0) (omega arith) (h .inv .4) (a .gap) (st .pre .3) (omega arith) (λ e. c .if1 .taken (kind ∙ e))
 
 time-at-requires-2 : tie.Need-time-at-requires-2 Inv-loop μ-loop
 time-at-requires-2 c κs = omega arith
@@ -60,7 +61,7 @@ returns-2 c =
     let kind = c .before .before .before .before .kind-at .ensures in
     let time = c .before .before .time-at2 .ensures in
     let past = sym (c .before .is-past .ensures) ∙ c .if2 .taken in
-    window-past (a .block .now) (a .duration) (a .i) (h .k) (h .inv .0) (omega arith) (h .inv .4) (omega arith) (sym kind ∙ c .before .before .before .if1 .left)
+    window-past (a .block .now) (a .duration) (a .i) (h .k) (h .inv .0) (omega arith) (h .inv .4) (a .gap) (omega arith) (sym kind ∙ c .before .before .before .if1 .left)
     (rw (sym (h .inv .3), sym time) past)
 
 add-k : tie.Need-add-k Inv-loop μ-loop
@@ -90,8 +91,8 @@ returns-3 c =
     let a = c .before .before .before .before .before .args in
     let h = c .before .loop in
     let e : h .k ≡ recordCount (a .block .now) = omega (arith, c .loop-test .left) in
-    subst (λ (k : ℕ). WindowIs (a .block .now) (a .duration) (a .i) (record { until = k; mark = 2 })) e
-    (window-end (a .block .now) (a .duration) (a .i) (h .k) (h .inv .0) (omega arith) (h .inv .4) (omega arith))
+    subst (λ (k : ℕ). WindowIs (a .block .now) (a .duration) (a .gap) (a .i) (record { until = k; mark = 2 })) e
+    (window-end (a .block .now) (a .duration) (a .i) (h .k) (h .inv .0) (omega arith) (h .inv .4) (a .gap) (omega arith))
 
 pub window-at-spec : {M : Type 1} → statement M
 window-at-spec =

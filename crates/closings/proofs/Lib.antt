@@ -1,0 +1,2 @@
+pub mod GapMarks
+pub mod Windows
