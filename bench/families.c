@@ -1,6 +1,8 @@
 /* Families of wide patterns: see families.h. */
 #include "families.h"
 
+#include <string.h>
+
 enum { VARIABLES = 12, SETS = 3, SET_VARIABLES = 6 };
 
 /* What a pattern and its block are made from. A window of `window` records has its first event and those behind it. */
@@ -172,6 +174,30 @@ static void typed_block(const struct shape *s, struct workload *w) {
   }
 }
 
+/* Gives every second record the cycle of the one before it, where both are events. */
+static void in_pairs(const struct shape *s, struct workload *w) {
+  for (unsigned i = 1; i < s->records; i += 2) {
+    uint8_t *at = w->block + SPALDEP_RECORD_BYTES * (size_t)i, *before = at - SPALDEP_RECORD_BYTES;
+    if (at[0] >> 6 == 0 && before[0] >> 6 == 0) memcpy(at + 2, before + 2, 5);
+  }
+}
+
+static void alternating_pairs(const struct shape *s, struct workload *w) {
+  alternating(s, w);
+  in_pairs(s, w);
+}
+
+/* In each cycle an event of class_of_end's class 0, and behind it one of class 1. */
+static void end_in_pairs(const struct shape *s, struct workload *w) {
+  runs(&(struct shape){.sets = 2, .records = s->records}, w, 1);
+  in_pairs(s, w);
+}
+
+static void typed_pairs(const struct shape *s, struct workload *w) {
+  typed_block(s, w);
+  in_pairs(s, w);
+}
+
 /* ---- the families ---- */
 
 static const struct {
@@ -190,6 +216,9 @@ static const struct {
     {"a join that fails at the last variable", shape_for_joins, failing_join, distinct_slots},
     {"random, as people type them", typed_shape, typed_conditions, typed_block},
     {"random, larger", any_shape, typed_conditions, typed_block},
+    {"a class for each set, two events a cycle", any_shape, class_of_set, alternating_pairs},
+    {"{a+, b+}{c} and the like, a c with each a", shape_with_end, class_of_end, end_in_pairs},
+    {"random, two events a cycle", typed_shape, typed_conditions, typed_pairs},
 };
 
 const char *family_name(unsigned family) { return families[family].name; }

@@ -12,7 +12,7 @@
 
 #include "workloads.h"
 
-enum { FAMILIES = 10, PATTERNS_A_FAMILY = 300, DESCRIPTION_BYTES = 96 };
+enum { FAMILIES = 13, PATTERNS_A_FAMILY = 300, DESCRIPTION_BYTES = 96 };
 
 struct wide {
   bool joins;

@@ -151,7 +151,6 @@ static bool gap_broken(const struct record *r) {
 }
 
 static uint64_t read_block(const uint8_t *bytes, size_t length) {
-  uint64_t before = 0;
   if (length % 16 != 0 || length / 16 > RECORDS) return refusal(5, 0);
   if (classes[255] == 0) fill_classes();
   for (size_t i = 0; i < length / 16; i++) {
@@ -167,8 +166,8 @@ static uint64_t read_block(const uint8_t *bytes, size_t length) {
     r->value[5] = at[15];
     is_gap[i] = kind == 1;
     if (kind > 1 || (kind == 1 && gap_broken(r))) return refusal(6, i);
-    if (i > 0 && times[i] <= before) return refusal(7, i);
-    before = times[i];
+    if (i > 0 && times[i] <= times[i - 1] && (times[i] < times[i - 1] || is_gap[i] || is_gap[i - 1]))
+      return refusal(7, i);
   }
   return 0;
 }
@@ -205,6 +204,19 @@ static unsigned leaving(const struct pattern *p, unsigned state) {
   }
   return open;
 }
+
+/* Of variables that leave a state, those that an event of the cycle of the latest binding can be bound to. The others
+   open a set: all earlier ones are bound and nothing else is. */
+static unsigned in_cycle(const struct pattern *p, unsigned state, unsigned open) {
+  unsigned kept = open;
+  for (unsigned left = open; left != 0; left &= left - 1) {
+    unsigned v = (unsigned)__builtin_ctz(left);
+    if (p->variable[v].before == state) kept &= ~(1u << v);
+  }
+  return kept;
+}
+
+static uint64_t time_bound(uint16_t binding) { return times[binding & 0xfff]; }
 
 /* Of a gap: whether a reading of all variables may take more. */
 static unsigned gap_mark(const struct pattern *p) { return leaving(p, p->full) == 0 ? MARK_GAP_COMPLETE : MARK_GAP; }
@@ -281,7 +293,10 @@ static bool extend(const struct pattern *p, const struct slot *from, unsigned ca
   uint16_t binding[BINDINGS];
   unsigned count = from->count;
   bool fired = false;
-  if (left != 0) memcpy(binding, (const uint8_t *)from + offsetof(struct slot, binding), sizeof binding);
+  if (left != 0) {
+    memcpy(binding, (const uint8_t *)from + offsetof(struct slot, binding), sizeof binding);
+    if (time_bound(binding[count - 1]) == times[at]) left = in_cycle(p, state, left);
+  }
   for (; left != 0; left &= left - 1) {
     unsigned v = (unsigned)__builtin_ctz(left);
     if (!joins_hold(&p->variable[v], &records[at], state, binding, count)) continue;
@@ -370,8 +385,11 @@ static uint16_t can_bind[RECORDS];
 
 static void follow(struct start *s, unsigned state, size_t at) {
   unsigned open = leaving(s->p, state), fired = 0;
+  uint64_t cycle = time_bound(s->binding[s->count - 1]);
   for (; at < s->until; at++) {
-    for (unsigned left = can_bind[at] & open; left != 0; left &= left - 1) {
+    unsigned left = can_bind[at] & open;
+    if (left != 0 && times[at] == cycle) left = in_cycle(s->p, state, left);
+    for (; left != 0; left &= left - 1) {
       unsigned v = (unsigned)__builtin_ctz(left);
       if (joins_hold(&s->p->variable[v], &records[at], state, s->binding, s->count)) fired |= 1u << v;
     }

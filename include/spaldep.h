@@ -63,7 +63,8 @@ enum {
   SPALDEP_REFUSED_BLOCK_LENGTH = 5,    /* block not whole records, or over 4,096 of them; place 0 */
   SPALDEP_REFUSED_RECORD = 6,          /* neither event nor gap, or a gap with a core, type, amount or wave, or that
                                           tells of no loss; place: the record */
-  SPALDEP_REFUSED_TIME = 7,            /* a time no later than that of the record before; place: the record */
+  SPALDEP_REFUSED_TIME = 7,            /* a time below that of the record before, or the same where one of the two is
+                                          a gap; place: the record */
   SPALDEP_REFUSED_LIMIT_OR_MEMORY = 8, /* limit not 1 to 256, work under 160 bytes a reading of it, or a result
                                           slice that is odd or longer than 65,536 bytes; place 0 */
   SPALDEP_REFUSED_BINDINGS = 9,        /* a reading of 32 bindings must take one more; place: the first such record */
@@ -175,7 +176,8 @@ uint64_t spaldep_check_pattern(const uint8_t *pattern, size_t pattern_len);
  *                  6       core; zero in a gap
  *                  8       type; zero in a gap. It gives an event its class: 0 up to type 15, 1 up to 31, 2 up to 63,
  *                          3 up to 95, 4 up to 127, 5 above
- *                 40       time in cycles, later than that of the record before
+ *                 40       time in cycles, never below that of the record before: events may have one time, and then
+ *                          their order is that of the block; a gap has a time to itself
  *                 32       slot, unsigned; in a gap how many entries were lost, 1 or more
  *                 32       amount, two's complement; zero in a gap
  *                  8       wave, the wave slot, unsigned; zero in a gap

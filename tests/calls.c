@@ -8,10 +8,12 @@
 #include <string.h>
 #include <unistd.h>
 
+#include "cycles.h"
 #include "lent.h"
 #include "lost.h"
 #include "operators.h"
 #include "reference.h"
+#include "rules.h"
 #include "spaldep.h"
 #include "tally.h"
 #include "waves.h"
@@ -143,6 +145,7 @@ static void count_report(const uint8_t *result, uint64_t answer, size_t result_l
   tally.met[MET_MARK_WINDOW] += marks[1];
   tally.met[MET_MARK_END] += marks[2];
   count_gap_lines(&now, result, answer);
+  count_cycle_lines(&now, result, answer);
   tally.met[MET_MOST_BINDINGS] += long_one;
   tally.met[MET_RESULT_FULL] += used > 0 && used == result_len / 2;
 }
@@ -294,6 +297,37 @@ void compare_filled(void) {
     tally.met[MET_FILLED_STANDS] += l.mark == SPALDEP_MARK_GAP_COMPLETE && stands;
     tally.met[MET_FILLED_GROWS] += l.mark == SPALDEP_MARK_GAP && grows;
   }
+}
+
+/* The forward pass of the library on some records of the block, with the highest limit and the longest result. */
+static uint64_t forward_part(size_t from, size_t to) {
+  lend_input(CALL_FORWARD);
+  lent_out(&lent_block, now.block + RECORD_BYTES * from, 0, RECORD_BYTES * (to - from));
+  lent_out(&lent_work, NULL, filled(), SPALDEP_WORK_BYTES(SPALDEP_LIMIT_MAX));
+  lent_out(&lent_result, NULL, filled(), SPALDEP_RESULT_BYTES_MAX);
+  return spaldep_forward(lent_pattern.bytes, now.pattern_len, lent_block.bytes, lent_block.length, SPALDEP_LIMIT_MAX,
+                         lent_work.bytes, lent_work.length, lent_result.bytes, lent_result.length);
+}
+
+void compare_cut(void) {
+  size_t from, to;
+  uint32_t used = spaldep_used(passed.forward), kept = 0;
+  bool across = false;
+  if (spaldep_code(passed.forward) != 0 || !any_cut(&now, now_seed >> 24, &from, &to)) return;
+  for (struct line l; kept < used && (l = line_at(passed.forward_result, kept)).first < from; kept += 1 + l.bindings)
+    across = across || l.last >= from;
+  uint64_t first = forward_part(0, to);
+  if (spaldep_code(first) != 0) return; /* it has the start of the second part's readings too, so room may be short */
+  uint32_t rest = spaldep_used(first) - kept;
+  if (memcmp(lent_result.bytes, passed.forward_result, 2 * (size_t)kept) != 0 ||
+      (rest > 0 && line_at(lent_result.bytes, kept).first < from))
+    fail("reports something else of the first part of a block");
+  uint64_t second = forward_part(from, now.block_len / RECORD_BYTES);
+  if (spaldep_code(second) != 0 || spaldep_used(second) != used - kept ||
+      !same_lines(passed.forward_result + 2 * (size_t)kept, lent_result.bytes, used - kept, from))
+    fail("reports something else of the second part of a block");
+  tally.met[MET_CUT]++;
+  tally.met[MET_CUT_IN_CYCLE] += across && time_of(&now, from) == time_of(&now, from - 1);
 }
 
 void calls_ready(void) {

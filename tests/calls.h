@@ -46,6 +46,10 @@ void compare_without_waves(uint32_t limit, size_t work_len, size_t result_len);
    of that block too, and what it closed with mark 3 as it was or with more bindings. */
 void compare_filled(void);
 
+/* The forward pass of the library once more on two parts of the block, as the manual says to cut it, right after
+   compare_passes with the highest limit and the longest result: what they report together is what was reported. */
+void compare_cut(void);
+
 /* The reference's forward pass against every list of bindings, where there are few enough. */
 void compare_by_rule(uint32_t limit, size_t work_len, size_t result_len);
 

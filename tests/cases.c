@@ -75,19 +75,31 @@ static uint64_t first_time(struct random *r, const struct knobs *k) {
   return power >= span / 2 && power - span / 2 < room ? power - span / 2 : random_next(r) % room;
 }
 
+uint64_t next_time(struct random *r, const struct knobs *k, bool beside_gap, unsigned *left, uint64_t time) {
+  if (*left > 0 && !beside_gap) {
+    --*left;
+    return time;
+  }
+  *left = chance(r, k->same_percent) ? between(r, 1, k->same_most) : 0;
+  return time + 1 + random_next(r) % k->time_step;
+}
+
 static void make_block(struct random *r, const struct knobs *k, const unsigned *classes, struct test_case *out) {
   uint64_t time = first_time(r, k);
-  unsigned turn = 0;
+  unsigned turn = 0, left = 0;
+  bool gap_before = false;
   out->block_len = 16 * (size_t)k->records;
   memset(out->block, 0, out->block_len + 16);
   for (size_t i = 0; i < k->records; i++) {
     uint8_t *at = out->block + 16 * i;
-    if (chance(r, k->gap_percent))
+    bool gap = chance(r, k->gap_percent);
+    if (i > 0) time = next_time(r, k, gap || gap_before, &left, time);
+    if (gap)
       put_gap(r, at);
     else
       put_event(r, k, classes, &turn, at);
     set_field(at, 16, 40, time);
-    time += 1 + random_next(r) % k->time_step;
+    gap_before = gap;
   }
 }
 
@@ -104,13 +116,13 @@ static uint64_t duration(struct random *r, const struct knobs *k, const struct t
   size_t records = c->block_len / 16;
   unsigned window = k->window;
   if (window == 0 && chance(r, 30)) return ((uint64_t)1 << 40) - 1;
-  if (chance(r, 3)) return 0;
+  if (chance(r, k->same_percent > 0 ? 12 : 3)) return 0;
   if (records < 2) return random_next(r) % 1000;
   if (window == 0) window = between(r, 1, 40);
   if (window >= records) window = (unsigned)records - 1;
   size_t from = below(r, (unsigned)(records - window));
   uint64_t distance = time_of(c, from + window) - time_of(c, from);
-  return chance(r, 50) ? distance : distance - 1;
+  return distance == 0 || chance(r, 50) ? distance : distance - 1;
 }
 
 /* A constant beside wave, one in five above every wave or near the edges of 32 bits. */

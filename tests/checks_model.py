@@ -39,15 +39,16 @@ def check_block(block):
     """Code, place and used: the refusals 5 to 7, or the count of records."""
     if len(block) % 16 != 0 or len(block) // 16 > RECORDS:
         return 5, 0, 0
-    times = []
+    kinds, times = [], []
     for i in range(len(block) // 16):
         kind, core, event_type, time, slot, amount, wave = fields(block[16 * i : 16 * i + 16], RECORD)
         if kind in (2, 3):
             return 6, i, 0
         if kind == 1 and not (core == event_type == amount == wave == 0 and slot >= 1):
             return 6, i, 0
-        if times and not time > times[-1]:
+        if times and (time < times[-1] or (time == times[-1] and 1 in (kind, kinds[-1]))):
             return 7, i, 0
+        kinds.append(kind)
         times.append(time)
     return 0, 0, len(times)
 
@@ -253,14 +254,24 @@ BLOCKS = [
     block(gap(1, amount=2**31)),
     "# Events with these fields, and slot 0, are in order",
     block(event(1, 1, 1, 0, 1), event(2, 63, 128, 0, 2**31)),
-    "# Times: equal, falling, equal 0, falling in the highest byte, rising from the fourth byte into the highest",
-    block(event(5), event(5)),
+    "# Times: falling, falling to 0, falling in the highest byte, rising from the fourth byte into the highest",
     block(event(5), event(4)),
-    block(event(0), event(0)),
+    block(event(1), event(0)),
     block(event(2**32), event(1)),
     block(event(2**32 - 1), event(2**32)),
-    "# Times are not counted with waves: equal times with rising waves, rising times with falling waves",
-    block(event(5, wave=1), event(5, wave=2)),
+    "# Events of one cycle: two, at the first time and at the last; three; two cycles of two; alike, and different in all",
+    block(event(5), event(5)),
+    block(event(0), event(0)),
+    block(event(2**40 - 1), event(2**40 - 1)),
+    block(event(5), event(5), event(5)),
+    block(event(5), event(5), event(6), event(6)),
+    block(event(5, 1, 2, 3, 4, wave=6), event(5, 1, 2, 3, 4, wave=6)),
+    block(event(5, 1, 2, 3, 4, wave=6), event(5, 63, 255, 2**32 - 1, 2**31, wave=255)),
+    "# A hundred events of one cycle, and a time below it behind them",
+    block(*[event(7)] * 100),
+    block(*[event(7)] * 100, event(6)),
+    "# Times are not counted with waves: falling times with rising waves, rising times with falling waves",
+    block(event(5, wave=1), event(4, wave=2)),
     block(event(5, wave=2), event(6, wave=1), event(7)),
     "# Times at a gap: the gap equal, the gap falling; the event after it equal, between the two, as the event before it",
     block(event(10), gap(10)),
@@ -268,6 +279,16 @@ BLOCKS = [
     block(event(10), gap(20), event(20)),
     block(event(10), gap(20), event(15)),
     block(event(10), gap(20), event(10)),
+    "# A gap in the cycle of two events, or between them; two gaps of one cycle, at the first time, with events around them",
+    block(event(10), event(10), gap(10)),
+    block(event(10), gap(10), event(10)),
+    block(gap(0), gap(0)),
+    block(event(10), gap(11), gap(11), event(12)),
+    "# A gap with a cycle to itself between cycles of two events",
+    block(event(10), event(10), gap(11), event(12), event(12)),
+    "# An event in the cycle of a gap, then one a cycle later; the same with a second event in that cycle",
+    block(gap(10), event(10), event(11)),
+    block(gap(10), event(11), event(11), gap(11)),
     "# The last of 4,096 records: wave 1 and wave 255 of an event, kind 3, its time 0",
     f"events {RECORDS} 0 {LAST_RECORD + 15} 1",
     f"events {RECORDS} 0 {LAST_RECORD + 15} 255",
@@ -278,19 +299,19 @@ BLOCKS = [
     block(gap(1, wave=1), "00"),
     f"events {RECORDS + 1} 0 0 192",
     "# 5 before 7: a late record and a byte too many, and 4,097 records of which the last is late",
-    block(event(5), event(5), "00"),
+    block(event(5), event(4), "00"),
     f"events {RECORDS + 1} 0 {LAST_RECORD + 16 + 5} 0",
     "# A record both broken and late: an event, a gap, a gap with a wave",
-    block(event(5), event(5, kind=2)),
+    block(event(5), event(4, kind=2)),
     block(event(5), gap(4, 0)),
     block(event(5), gap(5, wave=1)),
     "# The first bad record: late then broken, broken then late, two broken, two late",
-    block(event(1), event(5), event(5), gap(6, wave=1)),
+    block(event(1), event(5), event(4), gap(6, wave=1)),
     block(event(1), event(5), gap(6, wave=1), event(2)),
     block(event(1), event(2, kind=3), event(3, kind=2)),
     block(event(5), event(4), event(3)),
     "# An event with a wave is no bad record: late before it, late behind it, two broken gaps behind it",
-    block(event(1), event(5), event(5), event(6, wave=1)),
+    block(event(1), event(5), event(4), event(6, wave=1)),
     block(event(1), event(5), event(6, wave=1), event(2)),
     block(event(1, wave=1), event(2, wave=2), gap(3, wave=3), gap(4, 0)),
 ]

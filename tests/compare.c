@@ -18,6 +18,7 @@
 
 #include "calls.h"
 #include "cases.h"
+#include "cycles.h"
 #include "operators.h"
 #include "reference.h"
 #include "rows.h"
@@ -131,6 +132,7 @@ static void count_input(uint64_t pattern_answer, uint64_t block_answer) {
   }
   count_waves(&now, pattern_answer, block_answer);
   count_operators(&now, pattern_answer, block_answer);
+  count_cycles(&now, block_answer);
 }
 
 /* See tally.h. */
@@ -150,6 +152,7 @@ static void count_wide(void) {
   tally.met[MET_WIDE_JOINS] += m->joins;
   tally.met[MET_WIDE_WAVE] += asks_wave(&now);
   tally.met[MET_WIDE_NOT_EQUAL] += joins_not_equal(&now);
+  tally.met[MET_WIDE_CYCLE] += shares_cycle(&now);
 }
 
 /* The numbers that a pass would write and the most readings live, found with every slice as long as it may be: the
@@ -189,6 +192,7 @@ static void run_case(uint64_t seed) {
   compare_passes(SPALDEP_LIMIT_MAX, MOST_WORK, SPALDEP_RESULT_BYTES_MAX);
   compare_without_waves(SPALDEP_LIMIT_MAX, MOST_WORK, SPALDEP_RESULT_BYTES_MAX);
   compare_filled();
+  compare_cut();
   compare_by_rule(SPALDEP_LIMIT_MAX, MOST_WORK, SPALDEP_RESULT_BYTES_MAX);
   for (unsigned i = 0; i < (now.large ? 1 : 3); i++) {
     uint32_t limit = any_limit(&r, peak);

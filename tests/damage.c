@@ -105,6 +105,23 @@ static void put_gap_with_wave(struct random *r, uint8_t *at) {
   set_field(at, 120, 8, PICK(r, 1, 128, 255, 1 + below(r, 255)));
 }
 
+static void put_gap_in_order(uint8_t *at) {
+  set_field(at, 0, 16, 0x4000);
+  set_field(at, 56, 32, 1);
+  set_field(at, 88, 40, 0);
+}
+
+/* Gives a record the time of the one before, and makes one of the two a gap, or both, or neither: with neither a gap
+   that is no damage. */
+static void put_in_cycle(struct random *r, struct test_case *c, size_t record) {
+  uint8_t *at = c->block + 16 * record;
+  unsigned gaps = below(r, 4);
+  if (record == 0) return;
+  set_field(at, 16, 40, time_of(c, record - 1));
+  if (gaps & 1) put_gap_in_order(at);
+  if (gaps & 2) put_gap_in_order(at - 16);
+}
+
 /* Another last byte is damage to a gap, and none to an event. */
 static void damage_record(struct random *r, struct test_case *c, size_t record) {
   uint8_t *at = c->block + 16 * record;
@@ -126,9 +143,7 @@ static void damage_record(struct random *r, struct test_case *c, size_t record) 
       break;
     case 9: set_field(at, 88 + below(r, 32), 1, 1); break;
     case 10:
-    case 11:
-      if (record > 0) set_field(at, 16, 40, time_of(c, record - 1));
-      break;
+    case 11: put_in_cycle(r, c, record); break;
     case 12:
       if (record > 0) set_field(at, 16, 40, time_of(c, record - 1) - 1);
       break;

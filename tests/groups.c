@@ -115,8 +115,17 @@ unsigned agreeing(const struct view *w, const struct group *g, unsigned variable
   return agree;
 }
 
+/* The variables that leave a state by steps with the order mark. */
+static unsigned opening(struct view *w, unsigned state) {
+  unsigned marked = 0;
+  for (unsigned v = 0; v < w->p->n; v++)
+    if (order_mark(w->p, state, v)) marked |= 1u << v;
+  return leaves(w, state) & marked;
+}
+
 unsigned firing(struct view *w, const struct group *g, size_t event) {
-  return agreeing(w, g, leaves(w, g->state), event);
+  unsigned kept_out = g->cycle == w->b->record[event].time + 1 ? opening(w, g->state) : 0;
+  return agreeing(w, g, leaves(w, g->state) & ~kept_out, event);
 }
 
 /* The values of a side once its variable is bound to an event. */
@@ -142,6 +151,7 @@ unsigned still_to_come(struct view *w, unsigned state) { return (((1u << w->p->n
 
 void bind_group(struct view *w, const struct group *from, unsigned v, size_t event, struct group *to) {
   to->state = from->state | 1u << v;
+  to->cycle = opening(w, to->state) != 0 ? w->b->record[event].time + 1 : 0;
   unsigned to_come = still_to_come(w, to->state);
   for (size_t i = 0; i < w->sides; i++) {
     const struct side *s = &w->side[i];
@@ -154,7 +164,7 @@ void bind_group(struct view *w, const struct group *from, unsigned v, size_t eve
 }
 
 bool same_group(const struct view *w, const struct group *x, const struct group *y) {
-  if (x->state != y->state) return false;
+  if (x->state != y->state || x->cycle != y->cycle) return false;
   for (size_t i = 0; i < w->sides; i++)
     if (x->least[i] != y->least[i] || x->greatest[i] != y->greatest[i] || x->bound[i] != y->bound[i]) return false;
   return true;

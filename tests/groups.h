@@ -2,8 +2,9 @@
  * Groups of readings that go on alike, for the reference's second way through the start-by-start pass (merged.h).
  * What an event does to a reading depends on its state and, for each condition between two variables, on the events
  * that the other variable is bound to (Rule 5.3). An operator other than != holds of all of these where it holds of the
- * least and of the greatest of their values; != has to be asked of every value. So a group has its state and, of each
- * side that is asked, the least value, the greatest, or which values there are; and no reading.
+ * least and of the greatest of their values; != has to be asked of every value. It also depends on whether the event is
+ * of the cycle of the latest binding, where a step has the order mark (Rule 4.3). So a group has its state, that cycle
+ * and, of each side that is asked, the least value, the greatest, or which values there are; and no reading.
  */
 #ifndef GROUPS_H
 #define GROUPS_H
@@ -45,6 +46,7 @@ struct view {
 /* What no event to come is held against is the same in all groups of a state. */
 struct group {
   unsigned state;
+  uint64_t cycle; /* one more than the time of the latest binding, where a step with the order mark leaves; else 0 */
   int64_t least[MOST_SIDES], greatest[MOST_SIDES];
   uint64_t bound[MOST_SIDES]; /* bit i: value i of the side's attribute is bound; 0 where != is not asked of it */
 };
@@ -64,8 +66,8 @@ unsigned still_to_come(struct view *w, unsigned state);
    is bound. */
 unsigned agreeing(const struct view *w, const struct group *g, unsigned variables, size_t event);
 
-/* The variables whose steps fire at an event. The order mark asks nothing more: times go up from record to record, and
-   an event comes behind all that is bound. */
+/* The variables whose steps fire at an event that comes behind all that is bound. Its time is no earlier, so the order
+   mark asks only that it is not the latest binding's. */
 unsigned firing(struct view *w, const struct group *g, size_t event);
 
 /* The group with v bound to the event as well. */

@@ -337,8 +337,10 @@ REFUSED = [
     "# 6 at record 1, behind an event with a wave: a gap with one, kind 3 with one",
     case(5, ONE, [event(10, wave=9), gap(20, wave=9), event(15)]),
     case(5, ONE, [event(10, wave=9), event(20, kind=3, wave=9)]),
-    "# 7 at record 1: equal times; and at record 2, a gap that falls",
-    case(6, BENCH, [event(10), event(10)]),
+    "# 7 at record 1: a gap in the cycle of an event, an event in that of a gap, a time below; at record 2, a gap that falls",
+    case(6, BENCH, [event(10), gap(10)]),
+    case(6, BENCH, [gap(10), event(10)]),
+    case(6, BENCH, [event(10), event(9)]),
     case(6, BENCH, [event(10), event(20), gap(15)]),
     "# 8: L 0 with working memory, L 0 with none, L 257, L 65,537 (its low 16 bits are 1)",
     case(28, BENCH, [BENCH_RECORDS], limit=0, work=40960),
@@ -352,7 +354,7 @@ REFUSED = [
     case(28, BENCH, [BENCH_RECORDS], limit=5, work=0),
     "# 8 after 4, and after 7: pattern or block broken, L 257 and no working memory",
     case(6, plain((1, 0), conditions=(condition(0, 0, 6),)), THRICE, limit=257, work=0),
-    case(6, BENCH, [event(10), event(10)], limit=257, work=0),
+    case(6, BENCH, [event(10), gap(10)], limit=257, work=0),
     "# 8 before the pass: L 0 or working memory short, where the pass would give 9, 10 or 11",
     case(4, GROUP, steps(MOST_BINDINGS + 1), limit=0),
     case(28, BENCH, [BENCH_RECORDS], limit=4, work=639),
@@ -463,6 +465,18 @@ EXAMPLES = [
         plain((1, 1), (2, 1), conditions=BY_TYPE),
         [event(10 + i, event_type=kind) for i, kind in enumerate((0, 0, 1, 0, 1))],
         ["2 0@0 0@1 1@2 1@4", "2 0@1 1@2 1@4", "2 0@3 1@4"],
+    ),
+    (
+        "4.3, one cycle: the event of the next set is not taken in it",
+        plain((1, 0), (2, 0), conditions=BY_TYPE),
+        [event(10), event(10, event_type=1), event(11, event_type=1)],
+        ["2 0@0 1@2"],
+    ),
+    (
+        "4.3, one cycle: a loop in it",
+        plain((1, 1), (2, 0), conditions=BY_TYPE),
+        [event(10), event(11), event(11, event_type=1), event(12, event_type=1)],
+        ["2 0@0 0@1 1@3", "2 0@1 1@3"],
     ),
     (
         "5.3, a loop: an event that fails with one binding",
@@ -797,7 +811,63 @@ GAPS = {
     ],
 }
 
-TABLE = ROWS + EXAMPLE_ROWS + LENT + REFUSED + LIVE + RULE + WAVE_ROWS + captioned(DIFFERENT, 24) + captioned(GAPS, 24)
+
+def types(*times_and_types):
+    return [event(time, event_type=kind) for time, kind in times_and_types]
+
+
+# As in WAVES: of each caption the cases, with their lines worked out by hand
+IN_TURN = plain((1, 0), (2, 0), conditions=BY_TYPE)
+GROUPS_IN_TURN = plain((1, 1), (2, 1), conditions=BY_TYPE)
+ANY_ORDER = plain((1, 0), (1, 0), conditions=BY_TYPE)
+THREE_SETS = plain((1, 0), (2, 0), (3, 0), conditions=[condition(v, TYPE, EQUAL, v) for v in range(3)])
+PAIR_THEN_ONE = plain((1, 0), (1, 0), (2, 0), conditions=[condition(v, TYPE, EQUAL, v) for v in range(3)])
+CYCLES = {
+    "Two events of one cycle: a set takes both, in either order; the next set takes none of that cycle": [
+        (ANY_ORDER, types((10, 0), (10, 1)), ["2 0@0 1@1"]),
+        (ANY_ORDER, types((10, 1), (10, 0)), ["2 1@0 0@1"]),
+        (IN_TURN, types((10, 0), (10, 1)), []),
+        (IN_TURN, types((10, 1), (10, 0)), []),
+        (IN_TURN, types((10, 0), (11, 1)), ["2 0@0 1@1"]),
+    ],
+    "An event of the next set in the cycle, and one a cycle later: that one is taken; and of two of its cycle the first": [
+        (IN_TURN, types((10, 0), (10, 1), (11, 1)), ["2 0@0 1@2"]),
+        (IN_TURN, types((10, 0), (10, 1), (10, 1), (11, 1), (11, 1)), ["2 0@0 1@3"]),
+        (THREE_SETS, types((10, 0), (10, 1), (11, 1), (11, 2), (12, 2)), ["2 0@0 1@2 2@4"]),
+        (THREE_SETS, types((10, 0), (11, 1), (11, 2), (11, 2)), []),
+    ],
+    "Later than everything bound, not than the first: a set of two that ends in the cycle of the third event": [
+        (PAIR_THEN_ONE, types((10, 0), (11, 1), (11, 2)), []),
+        (PAIR_THEN_ONE, types((10, 0), (11, 1), (11, 2), (12, 2)), ["2 0@0 1@1 2@3"]),
+        (PAIR_THEN_ONE, types((10, 0), (10, 1), (11, 2)), ["2 0@0 1@1 2@2"]),
+    ],
+    "A loop in the cycle before the event of the next set keeps it out; behind it, it does not; once begun, the set goes on": [
+        (GROUPS_IN_TURN, types((10, 0), (11, 0), (11, 1)), []),
+        (GROUPS_IN_TURN, types((10, 0), (11, 1), (11, 0)), ["2 0@0 1@1"]),
+        (GROUPS_IN_TURN, types((10, 0), (11, 1), (11, 1), (11, 1)), ["2 0@0 1@1 1@2 1@3"]),
+        (plain((1, 1), (2, 0), conditions=BY_TYPE), types((10, 0), (11, 1), (11, 0)), ["2 0@0 1@1"]),
+        (plain((1, 0), (2, 1), conditions=BY_TYPE), types((10, 0), (11, 1), (11, 1)), ["2 0@0 1@1 1@2"]),
+    ],
+    "One event for two sets: what takes it for the next set needs a later cycle": [
+        (plain((1, 1), (2, 0)), [event(10), event(10)], []),
+        (plain((1, 1), (2, 0)), [event(10), event(10), event(11)], ["2 0@0 0@1 1@2", "2 0@1 1@2"]),
+    ],
+    "The window: two events of its first cycle, and two of its last, which are both inside; a cycle later both are out": [
+        (plain((1, 1), duration=5), [event(10), event(10), event(15), event(15)], ["2 0@0 0@1 0@2 0@3", "2 0@1 0@2 0@3", "2 0@2 0@3", "2 0@3"]),
+        (plain((1, 0), duration=5), [event(10), event(10), event(16), event(16)], ["1 0@0", "1 0@1", "2 0@2", "2 0@3"]),
+    ],
+    "Duration 0: the events of one cycle, and no more": [
+        (plain((1, 1), duration=0), [event(10), event(10), event(11)], ["1 0@0 0@1", "1 0@1", "2 0@2"]),
+        (plain((1, 0), (1, 0), conditions=BY_TYPE, duration=0), types((10, 0), (10, 1)), ["2 0@0 1@1"]),
+        (plain((1, 0), (2, 0), conditions=BY_TYPE, duration=0), types((10, 0), (10, 1), (11, 1)), []),
+    ],
+    "A gap a cycle behind two events of one cycle, and two more a cycle behind it": [
+        (plain((1, 1)), [event(10), event(10), gap(11), event(12), event(12)], ["3 0@0 0@1", "3 0@1", "2 0@3 0@4", "2 0@4"]),
+    ],
+}
+
+BY_RULE = ROWS + EXAMPLE_ROWS + LENT + REFUSED + LIVE + RULE
+TABLE = BY_RULE + WAVE_ROWS + captioned(DIFFERENT, 24) + captioned(GAPS, 24) + captioned(CYCLES, 32)
 
 # ---- Writing ----
 
@@ -828,7 +898,7 @@ def write(folder):
         assert result_of(pattern, records) == ((0, 0, 14, 3, 5), P1)
     for caption, pattern, records, stated in EXAMPLES:
         assert report_of(pattern, records) == stated, f"the rules state otherwise: {caption}"
-    for caption, cases in [*WAVES.items(), *DIFFERENT.items(), *GAPS.items()]:
+    for caption, cases in [*WAVES.items(), *DIFFERENT.items(), *GAPS.items(), *CYCLES.items()]:
         for pattern, records, stated in cases:
             assert report_of(pattern, records) == stated, f"worked out otherwise: {caption}"
     codes = {told[0].split(" ")[1] for told in lines if len(told) == 3}

@@ -111,6 +111,12 @@ static bool record_in_order(const struct record *r) {
   return r->kind == EVENT;
 }
 
+/* Rule 1.5: two records of one time are events. */
+static bool follows(const struct record *before, const struct record *r) {
+  if (r->time == before->time) return before->kind == EVENT && r->kind == EVENT;
+  return r->time > before->time;
+}
+
 /* Rules 1.1, 1.2 and 1.5, asked in the order of Rule 8.14: 0, or the refusal as an answer. */
 uint64_t read_block(const uint8_t *bytes, size_t length, struct block *b) {
   b->count = 0;
@@ -126,7 +132,7 @@ uint64_t read_block(const uint8_t *bytes, size_t length, struct block *b) {
     r->amount = two_complement(field(at, 88, 32));
     r->wave = small_field(at, 120, 8);
     if (!record_in_order(r)) return refusal(6, i);
-    if (i > 0 && r->time <= b->record[i - 1].time) return refusal(7, i);
+    if (i > 0 && !follows(&b->record[i - 1], r)) return refusal(7, i);
   }
   b->count = length / RECORD_BYTES;
   return 0;

@@ -20,6 +20,8 @@ static void any_knobs(struct random *r, struct knobs *k) {
   k->cores = PICK(r, 1, 1, 2, 3, 64);
   k->waves = PICK(r, 1, 1, 2, 4, 256);
   k->time_step = (uint64_t)1 << PICK(r, 0, 1, 4, 10, 26, 33);
+  k->same_percent = PICK(r, 0, 0, 20, 60, 100);
+  k->same_most = PICK(r, 1, 1, 2, 8);
   k->window = PICK(r, 0, 0, 1, k->variables - 1, k->variables, 2 * k->variables, 3 * k->variables, 20);
 }
 
@@ -39,6 +41,8 @@ static void long_knobs(struct random *r, struct knobs *k) {
   k->cores = PICK(r, 1, 1, 1, 2);
   k->waves = PICK(r, 1, 4);
   k->time_step = PICK(r, 1, 10);
+  k->same_percent = PICK(r, 0, 0, 30, 100);
+  k->same_most = PICK(r, 1, 4, 40);
   k->window = PICK(r, 28, 31, 32, 33, 34, 36, 0);
 }
 
@@ -62,6 +66,8 @@ static void rates_knobs(struct random *r, struct knobs *k) {
   k->last_percent = PICK(r, 80, 90);
   k->in_turn_percent = PICK(r, 0, 100);
   k->gap_percent = PICK(r, 0, 0, 0, 1);
+  k->same_percent = PICK(r, 0, 0, 50);
+  k->same_most = PICK(r, 1, 3);
   k->window = PICK(r, 0, 34 * parts, k->records, k->records);
 }
 
@@ -166,6 +172,8 @@ static void large_knobs(struct random *r, struct knobs *k) {
   k->gap_percent = PICK(r, 0, 0, 1, 5);
   k->fire_percent = PICK(r, 5, 20, 60);
   k->time_step = PICK(r, 1, 20, 1000);
+  k->same_percent = PICK(r, 0, 1, 10, 100);
+  k->same_most = PICK(r, 1, 3, 110);
   k->window = PICK(r, 2, 5, 10, 20);
   k->effort = 60000;
 }

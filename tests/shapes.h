@@ -23,7 +23,9 @@ struct knobs {
   unsigned in_turn_percent; /* of the others, the ones that follow the pattern's order */
   unsigned cores;
   unsigned waves;     /* events have waves below this, and those at the edges; 0 or 1: every wave is 0 */
-  uint64_t time_step; /* the most cycles between two records */
+  uint64_t time_step;    /* the most cycles between two records of different times */
+  unsigned same_percent; /* cycles with more than one event, */
+  unsigned same_most;    /* and the most events that such a cycle has besides its first */
   unsigned window;    /* records that a window holds, about; 0: any duration */
   uint64_t effort;    /* tests that the start-by-start pass may make */
 };
@@ -35,6 +37,10 @@ void put_variables(struct random *r, const struct knobs *k, uint8_t *bytes);
 
 /* The header, once all else of the case is there. */
 void put_header(struct random *r, const struct knobs *k, unsigned conditions, struct test_case *out);
+
+/* The time of a record behind one of time `time`: the same while its cycle is to have more events, `left` of them, and
+   never where one of the two is a gap. */
+uint64_t next_time(struct random *r, const struct knobs *k, bool beside_gap, unsigned *left, uint64_t time);
 
 /* A case in which events can be bound in many ways: one to twelve variables in up to three sets, without conditions or
    with such as many events meet. Not all of these cases are wide: the readings of some are few. */

@@ -39,6 +39,19 @@ static const char *const met_names[METS] = {
     "accepted blocks of no records",
     "accepted patterns of the most variables",
     "accepted patterns of the most conditions",
+    "accepted blocks with two events in one cycle",
+    "accepted blocks with a hundred events in one cycle",
+    "reports with two events of the first one's cycle in a reading",
+    "reports with two events of that cycle in a reading, and two of the last cycle of its window",
+    "reports with a duration of 0 and two events in a reading",
+    "reports with a set begun behind an event that only the order mark kept out of it",
+    "reports with readings that begin at different events of one cycle",
+    "reports put together from those of two parts of the block",
+    "among these, parts cut inside a cycle, with a reading on both sides",
+    "blocks refused with 7 for a time below the one before",
+    "blocks refused with 7 for a gap in the cycle of an event before it",
+    "blocks refused with 7 for an event in the cycle of a gap before it",
+    "blocks refused with 7 for a gap in the cycle of another",
     "accepted patterns with a condition on wave as first attribute",
     "accepted patterns with a condition on wave as second attribute",
     "accepted patterns that hold wave against a constant above 255",
@@ -77,6 +90,7 @@ static const char *const met_names[METS] = {
     "wide cases with joins",
     "wide cases with a condition on wave",
     "wide cases with a join by !=",
+    "wide cases with two events in one cycle",
 };
 
 static const char *const place_names[PLACES] = {
@@ -85,7 +99,7 @@ static const char *const place_names[PLACES] = {
     "accepted patterns with a join by !=, by second attribute",
 };
 
-static bool is_wide(int met) { return met >= MET_WIDE_TOO_LONG && met <= MET_WIDE_NOT_EQUAL; }
+static bool is_wide(int met) { return met >= MET_WIDE_TOO_LONG && met <= MET_WIDE_CYCLE; }
 
 void print_answers(bool with_measure) {
   printf("answers by their code, 0 accepted; a dash where the call has no such refusal\n%-15s", "");

@@ -111,6 +111,8 @@ static void wide_knobs(struct random *r, enum family f, struct knobs *k, struct 
   else
     any_wide(r, f, k, size);
   if (f == OTHER_CORE) k->cores = between(r, 2, 4);
+  k->same_percent = PICK(r, 0, 0, 0, 30, 100);
+  k->same_most = PICK(r, 1, 1, 5, 100);
   k->records = size->records;
 }
 
@@ -182,9 +184,11 @@ static void wide_block(struct random *r, enum family f, unsigned attribute, cons
   turns.slots = PICK(r, 1, 2, 4, attribute == SPALDEP_ATTRIBUTE_WAVE ? 256 : 1000);
   turns.late = chance(r, 40) ? k->records : between(r, k->records / 2, k->records - 1);
   uint64_t time = below(r, 100);
+  unsigned left = 0;
   out->block_len = 16 * (size_t)k->records;
   memset(out->block, 0, out->block_len + 16);
-  for (unsigned i = 0; i < k->records; i++, time += 1 + below(r, (unsigned)k->time_step)) {
+  for (unsigned i = 0; i < k->records; i++) {
+    if (i > 0) time = next_time(r, k, i == gap || i == gap + 1, &left, time);
     uint8_t *at = out->block + 16 * (size_t)i;
     set_field(at, 16, 40, time);
     if (i == gap) {

@@ -114,19 +114,19 @@ pub open-from :
 open-from bytes duration i k m e opened =
     record { event = λ q a b. opened .event q a (omega arith); near = λ q a b. opened .near q a (omega arith) }
 
--- what is open from one record is open from the next, whose time is later
+-- what is open from one record is open from the next, whose time is no earlier
 pub open-later :
     (bytes : List ℕ) (duration i k : ℕ)
-    → ((q : ℕ) → suc q < recordCount bytes → recordAt bytes q .time < recordAt bytes (suc q) .time)
+    → ((q : ℕ) → suc q < recordCount bytes → recordAt bytes q .time ≤ recordAt bytes (suc q) .time)
     → k ≤ recordCount bytes
     → OpenTo bytes duration i k
     → OpenTo bytes duration (i + 1) k
-open-later bytes duration i k rising few opened =
+open-later bytes duration i k climbing few opened =
     record {
       event = λ q a b. opened .event q (omega arith) b;
       near = λ q a b.
           let near = opened .near q (omega arith) b in
-          let later : recordAt bytes i .time < recordAt bytes (i + 1) .time = rw (add-one i) (rising i (omega arith)) in
+          let later : recordAt bytes i .time ≤ recordAt bytes (i + 1) .time = rw (add-one i) (climbing i (omega arith)) in
           omega arith;
     }
 

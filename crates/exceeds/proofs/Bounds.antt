@@ -18,7 +18,8 @@ use Rattle.patterns.specs.Patterns.{mostVariables}
 use Rattle.automaton.proofs.Membership.{clash}
 use Rattle.rule.specs.Rule.{Block, Reading, binds, fires}
 use Rattle.rule.specs.Promises.{mostBindings}
-use Rattle.rule.specs.Starts.{withBinding}
+use Rattle.rule.specs.Starts.{anyFires, withBinding}
+use Rattle.rule.proofs.SkipBranch.{any-fires, fires-none}
 use Rattle.slots.specs.Slots.{Held, stateIn, heldIn, holding}
 use Rattle.firing.specs.Firing.{canBy, ReadBelow}
 use Rattle.reach.specs.declared.Start.{Start}
@@ -155,7 +156,7 @@ module _ (plan bytes : List ℕ) (n c : ℕ) (few : n ≤ mostVariables) (r : Re
       (p : Pattern) → Of p plan bytes n c → (q : Reading) (k : ℕ) → k ≡ suc i → Grows p (recordsOf bytes) r j q k
       → Bounded plan n r q u
   next-each p of q k e (here a b) = absurd (omega arith)
-  next-each p of q k e (waits m b g) =
+  next-each p of q k e (waits m b g idle) =
       let z : m ≡ i = omega arith in
       waited plan bytes n i can o r q t u counted
       (before .each p of q (subst (λ (x : ℕ). Grows p (recordsOf bytes) r j q x) z g))
@@ -214,11 +215,29 @@ module _ (plan bytes cans slot : List ℕ) (n c j : ℕ) (o : Open) (fixed : Fix
 -- ## None over
 
 module _ (p : Pattern) (B : Block) (r : Reading) (j : ℕ) where
-  -- waiting up to a later record
-  grows-waits : (q : Reading) (i d k : ℕ) → k ≡ d + i → Grows p B r j q i → Grows p B r j q k
-  grows-waits q i zero k e g = let z : i ≡ k = omega arith in subst (λ (x : ℕ). Grows p B r j q x) z g
-  grows-waits q i (suc d) k e g =
-      let z : k ≡ suc (d + i) = omega arith in waits (d + i) z (grows-waits q i d (d + i) refl g)
+  record Longer (q : Reading) (k : ℕ) : Type 0 where
+    reading : Reading
+    grown : Grows p B r j reading k
+    more : length q ≤ length reading
+
+  -- what becomes of a reading at one record
+  longer-next : (q o : Reading) (k : ℕ) → Grows p B r j o k → length q ≤ length o → Longer q (suc k)
+  longer-next q o k g l =
+      by-test (anyFires p B o k)
+      (λ e.
+      let f = any-fires p B o k e in
+      record { reading = withBinding o (f .0) k; grown = takes k (f .0) o refl refl g (f .1); more = omega arith })
+      (λ e. record { reading = o; grown = waits k refl g (fires-none p B o k e); more = l })
+
+  -- and up to a later record
+  longer : (q : Reading) (i d k : ℕ) → k ≡ d + i → Grows p B r j q i → Longer q k
+  longer q i zero k e g =
+      let z : i ≡ k = omega arith in
+      record { reading = q; grown = subst (λ (x : ℕ). Grows p B r j q x) z g; more = omega arith }
+  longer q i (suc d) k e g =
+      let h = longer q i d (d + i) refl g in
+      let z : suc (d + i) ≡ k = omega arith in
+      subst (Longer q) z (longer-next q (h .reading) (d + i) (h .grown) (h .more))
 
   record Earlier (q : Reading) (i k : ℕ) : Type 0 where
     reading : Reading
@@ -229,13 +248,13 @@ module _ (p : Pattern) (B : Block) (r : Reading) (j : ℕ) where
   earlier : (q : Reading) (k : ℕ) → Grows p B r j q k → (i : ℕ) → j ≤ i → i ≤ k → Earlier q i k
   earlier q k (here a b) i l m =
       let z : i ≡ j = omega arith in record { reading = q; grown = here a z; near = omega arith }
-  earlier q k (waits x e g) i l m =
+  earlier q k (waits x e g idle) i l m =
       by-order i k
       (λ w.
       let h = earlier q x g i l (omega arith) in
       let y = h .near in
       record { reading = h .reading; grown = h .grown; near = omega arith })
-      (λ w. let z : i ≡ suc x = omega arith in record { reading = q; grown = waits x z g; near = omega arith })
+      (λ w. let z : i ≡ suc x = omega arith in record { reading = q; grown = waits x z g idle; near = omega arith })
   earlier q k (takes x v o e a g f) i l m =
       by-order i k
       (λ w.
@@ -259,7 +278,9 @@ few-over plan bytes s slot j i end t few from upTo small =
           let more = takes k v q refl refl g f in
           by-order (suc k) i
           (λ w.
-          let b = few .each p of (withBinding q v k) (grows-waits p (recordsOf bytes) r j (withBinding q v k) (suc k) (i - suc k) i (omega arith) more) .sum in
+          let h = longer p (recordsOf bytes) r j (withBinding q v k) (suc k) (i - suc k) i (omega arith) more in
+          let b = few .each p of (h .reading) (h .grown) .sum in
+          let y = h .more in
           omega arith)
           (λ w.
           let h = earlier p (recordsOf bytes) r j (withBinding q v k) (suc k) more i from w in

@@ -20,7 +20,7 @@ pub grows-length :
     (p : Pattern) (B : Block) (r : Reading) (j : ℕ) (q : Reading) (i : ℕ) → Grows p B r j q i
     → length q + j ≤ length r + i
 grows-length p B r j q i (here a b) = omega (arith, ap length a)
-grows-length p B r j q i (waits k e g) = let l = grows-length p B r j q k g in omega arith
+grows-length p B r j q i (waits k e g idle) = let l = grows-length p B r j q k g in omega arith
 grows-length p B r j q i (takes k v o e a g f) =
     let l = grows-length p B r j o k g in omega (arith, ap length a)
 

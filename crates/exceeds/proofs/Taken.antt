@@ -39,7 +39,7 @@ pub grows-binds :
     → binds q v ≡ true
 unfolding binds
 grows-binds p B r j q i (here a e) v b = subst (λ (x : Reading). binds x v ≡ true) (sym a) b
-grows-binds p B r j q i (waits k e g) v b = grows-binds p B r j q k g v b
+grows-binds p B r j q i (waits k e g idle) v b = grows-binds p B r j q k g v b
 grows-binds p B r j q i (takes k w o e a g f) v b =
     subst (λ (x : Reading). binds x v ≡ true) (sym a) (or-true (eqb w v) (binds o v) (grows-binds p B r j o k g v b))
 

@@ -122,7 +122,7 @@ module _ (plan bytes : List ℕ) (s : Start) (slot : List ℕ) (j x : ℕ) where
         → Grows p (recordsOf bytes) r j q k
         → boundOf x q + (left - oneIf hit) ≤ sizeOf x
     grown p of q k e (here a b) = absurd (omega arith)
-    grown p of q k e (waits m d g) =
+    grown p of q k e (waits m d g idle) =
         let z : m ≡ i = omega arith in
         let few = lacks .few p of q (subst (Grows p (recordsOf bytes) r j q) z g) in
         omega arith

@@ -1,3 +1,6 @@
 pub mod Counting
 pub mod Lacking
 pub mod Sets
+pub mod OrderMark
+pub mod Latest
+pub mod NextSet

@@ -122,7 +122,7 @@ module _ (plan bytes : List ℕ) (s : Start) (slot : List ℕ) (j : ℕ) (ready 
   begins :
       (p : Pattern) (q : Reading) (i : ℕ) → Grows p (recordsOf bytes) r j q i → i ≤ j → q ≡ r
   begins p q i (here a b) l = a
-  begins p q i (waits k e g) l = let m = grows-later p (recordsOf bytes) r j q k g in absurd (omega arith)
+  begins p q i (waits k e g idle) l = let m = grows-later p (recordsOf bytes) r j q k g in absurd (omega arith)
   begins p q i (takes k v o e b g f) l = let m = grows-later p (recordsOf bytes) r j o k g in absurd (omega arith)
 
   pub within-state : Within plan bytes s slot j (stateIn slot) j
@@ -166,7 +166,7 @@ module _ (plan bytes : List ℕ) (s : Start) (slot : List ℕ) (j : ℕ) (ready 
 
       still-free : (q : Reading) (i : ℕ) → Grows p (recordsOf bytes) r j q i → i ≤ end → binds q v ≡ false
       still-free q i (here a b) l = known .unbound p of q i (here a b) (omega arith) v small free
-      still-free q i (waits k e g) l = still-free q k g (omega arith)
+      still-free q i (waits k e g idle) l = still-free q k g (omega arith)
       still-free q i (takes k w o e b g f) l =
           let before = still-free o k g (omega arith) in
           ap (λ (y : Reading). binds y v) b

@@ -1,7 +1,7 @@
 -- What the readings that a reading can grow to have in common: where they stand, what they bind, which steps fire for
 -- them; and that all that skip and branch find is among them. Assumes nothing.
 use mathlib.Core.Path.{_≡_, refl, sym, ap, ap₂, subst, _∙_}
-use mathlib.Core.Bool.{Bool, true, _&&_}
+use mathlib.Core.Bool.{Bool, true, false, _&&_}
 use mathlib.Core.List.{List, [], _∷_, List·Memᴰ, List·Memᴰ·head, List·Memᴰ·tail, List·Memᴰ·not-nil}
 use Prim.Native.Nat.{ℕ, zero, suc, _+_, _-_, _≤_, _<_}
 use native.Mathlib.Omega.{arith}
@@ -21,7 +21,7 @@ use Rattle.rule.specs.Promises.{mostBindings}
 use Rattle.rule.specs.Starts.Found.{closed, over}
 use Rattle.rule.specs.Starts.{Found, anyFires, withBinding, close, skipUntil}
 use Rattle.rule.proofs.LiveReadings.{fires-variable}
-use Rattle.rule.proofs.SkipBranch.{any-fires, mem-turn, close-full, close-part, skip-passes, skip-closes, skip-takes}
+use Rattle.rule.proofs.SkipBranch.{any-fires, fires-none, mem-turn, close-full, close-part, skip-passes, skip-closes, skip-takes}
 use Rattle.rule.proofs.SkipBranch.{skip-over}
 use Rattle.slots.specs.Slots.{holding}
 use Rattle.firing.specs.Plan.{joinsIn}
@@ -36,7 +36,7 @@ use Rattle.reach.specs.Growing.Grows.{here, waits, takes}
 module _ (p : Pattern) (B : Block) where
   pub grows-later : (r : Reading) (j : ℕ) (q : Reading) (i : ℕ) → Grows p B r j q i → j ≤ i
   grows-later r j q i (here a b) = omega arith
-  grows-later r j q i (waits k e g) = let l = grows-later r j q k g in omega arith
+  grows-later r j q i (waits k e g idle) = let l = grows-later r j q k g in omega arith
   grows-later r j q i (takes k v o e b g f) = let l = grows-later r j o k g in omega arith
 
   -- a step more at the beginning
@@ -45,21 +45,23 @@ module _ (p : Pattern) (B : Block) where
       → Grows p B (withBinding r v j) (suc j) q i
       → Grows p B r j q i
   grows-after r j v f q i (here a b) = takes j v r b a (here refl refl) f
-  grows-after r j v f q i (waits k e g) = waits k e (grows-after r j v f q k g)
+  grows-after r j v f q i (waits k e g idle) = waits k e (grows-after r j v f q k g) idle
   grows-after r j v f q i (takes k w o e b g h) = takes k w o e b (grows-after r j v f o k g) h
 
-  -- a record more at the beginning at which no step is taken
+  -- a record more at the beginning at which no step fires
   pub grows-waited :
-      (r : Reading) (j : ℕ) (q : Reading) (i : ℕ) → Grows p B r (suc j) q i → Grows p B r j q i
-  grows-waited r j q i (here a b) = waits j b (here a refl)
-  grows-waited r j q i (waits k e g) = waits k e (grows-waited r j q k g)
-  grows-waited r j q i (takes k w o e b g h) = takes k w o e b (grows-waited r j o k g) h
+      (r : Reading) (j : ℕ) → ((v : ℕ) → fires p B r v j ≡ false) → (q : Reading) (i : ℕ) → Grows p B r (suc j) q i
+      → Grows p B r j q i
+  grows-waited r j f q i (here a b) =
+      waits j b (here a refl) (λ v. ap (λ (x : Reading). fires p B x v j) a ∙ f v)
+  grows-waited r j f q i (waits k e g idle) = waits k e (grows-waited r j f q k g) idle
+  grows-waited r j f q i (takes k w o e b g h) = takes k w o e b (grows-waited r j f o k g) h
 
   -- what was bound stays bound
   pub grows-keeps :
       (r : Reading) (j : ℕ) (q : Reading) (i : ℕ) → Grows p B r j q i → (b : Binding) → List·Memᴰ b r → List·Memᴰ b q
   grows-keeps r j q i (here a e) b m = subst (List·Memᴰ b) (sym a) m
-  grows-keeps r j q i (waits k e g) b m = grows-keeps r j q k g b m
+  grows-keeps r j q i (waits k e g idle) b m = grows-keeps r j q k g b m
   grows-keeps r j q i (takes k v o e a g f) b m = subst (List·Memᴰ b) (sym a) (List·Memᴰ·tail (grows-keeps r j o k g b m))
 
   taken-below :
@@ -81,7 +83,7 @@ module _ (p : Pattern) (B : Block) where
   pub grows-below :
       (r : Reading) (j : ℕ) (q : Reading) (i : ℕ) → Grows p B r j q i → ReadBelow p j r → ReadBelow p i q
   grows-below r j q i (here a e) known = subst (ReadBelow p i) (sym a) (subst (λ (k : ℕ). ReadBelow p k r) (sym e) known)
-  grows-below r j q i (waits k e g) known =
+  grows-below r j q i (waits k e g idle) known =
       let below = grows-below r j q k g known in
       record {
         variable = below .variable;
@@ -131,13 +133,15 @@ module _ (p : Pattern) (B : Block) where
         many = a .many;
       }
 
-  among-waited : (r : Reading) (j end : ℕ) (x : Found) → Among r (suc j) end x → Among r j end x
+  among-waited :
+      (r : Reading) (j end : ℕ) → ((v : ℕ) → fires p B r v j ≡ false) → (x : Found) → Among r (suc j) end x
+      → Among r j end x
   unfolding Among
-  among-waited r j end (closed mark q) a = record { grown = grows-waited r j q end (a .grown); full = a .full }
-  among-waited r j end (over x) a =
+  among-waited r j end f (closed mark q) a = record { grown = grows-waited r j f q end (a .grown); full = a .full }
+  among-waited r j end f (over x) a =
       record {
         reading = a .reading;
-        grown = grows-waited r j (a .reading) x (a .grown);
+        grown = grows-waited r j f (a .reading) x (a .grown);
         variable = a .variable;
         fired = a .fired;
         before = a .before;
@@ -192,7 +196,7 @@ module _ (p : Pattern) (B : Block) where
       let t = mem-turn (λ w. fires p B r w j) (λ w. skipUntil p B mark end (suc j) (withBinding r w j)) 0 (p .n - 0) (subst (List·Memᴰ x) (skip-takes p B mark end r j (omega arith) f l) m) in
       among-after r j end (t .0) (t .1) x (among-by n mark end (suc j) (omega arith) (withBinding r (t .0) j) x (t .2)))
       (λ l. among-over r j end (omega arith) f l x (subst (List·Memᴰ x) (skip-over p B mark end r j (omega arith) f l) m)))
-      (λ f. among-waited r j end x (among-by n mark end (suc j) (omega arith) r x (subst (List·Memᴰ x) (skip-passes p B mark end r j (omega arith) f) m)))
+      (λ f. among-waited r j end (fires-none p B r j f) x (among-by n mark end (suc j) (omega arith) r x (subst (List·Memᴰ x) (skip-passes p B mark end r j (omega arith) f) m)))
 
   -- all that is found of a reading from record j on
   pub among :

@@ -14,11 +14,14 @@ use Rattle.reach.specs.declared.Start.{Start}
 use Rattle.reach.specs.Readings.{Of}
 
 -- reading r, held before record j, has become q before record i: at each record between, a step that fires was taken,
--- or none. The rule leaves less open, since a step that fires must be taken; what is proved of all these readings holds
--- of the rule's.
+-- or none where none fires. So it is by the rule, but for its bound on bindings; what is proved of all these readings
+-- holds of the rule's.
 pub data Grows (p : Pattern) (B : Block) (r : Reading) (j : ℕ) : Reading → ℕ → Type 0 where
   here : {q : Reading} {i : ℕ} → q ≡ r → i ≡ j → Grows p B r j q i
-  waits : {q : Reading} {i : ℕ} (k : ℕ) → i ≡ suc k → Grows p B r j q k → Grows p B r j q i
+  waits :
+      {q : Reading} {i : ℕ} (k : ℕ) → i ≡ suc k → Grows p B r j q k
+      → ((v : ℕ) → fires p B q v k ≡ false)
+      → Grows p B r j q i
   takes :
       {q : Reading} {i : ℕ} (k v : ℕ) (o : Reading) → i ≡ suc k → q ≡ withBinding o v k → Grows p B r j o k
       → fires p B o v k ≡ true

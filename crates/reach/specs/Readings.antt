@@ -53,7 +53,7 @@ pub record Usable (plan bytes : List ℕ) (n c : ℕ) : Type 0 where
   pub variables : n ≤ mostVariables
   pub conditions : c ≤ mostConditions
   pub records : recordCount bytes ≤ mostRecords
-  pub rising : (i : ℕ) → suc i < recordCount bytes → recordAt bytes i .time < recordAt bytes (suc i) .time
+  pub climbing : (i : ℕ) → suc i < recordCount bytes → recordAt bytes i .time ≤ recordAt bytes (suc i) .time
 
 -- what a call at record j may count on
 pub record Ready (plan bytes : List ℕ) (s : Start) (slot : List ℕ) (j : ℕ) : Type 0 where

@@ -1,19 +1,18 @@
 -- What the check of a block answers, case by case; it accepts exactly the blocks in order. Assumes nothing.
-use mathlib.Core.Path.{_≡_, _∙_, refl, sym, ap, subst}
-use mathlib.Core.Bool.{true, false, true≢false}
+use mathlib.Core.Path.{_≡_, _∙_, refl, sym, ap, ap₂, subst}
+use mathlib.Core.Bool.{true, false, _||_, true≢false}
 use mathlib.Core.List.{List}
 use Prim.Native.Nat.{ℕ, zero, suc, _-_, _%_, _≤_, _<_}
-use native.Mathlib.Numerals.{unary-clauses}
 use native.Mathlib.Omega.{arith}
-use borrow.Author.Tests.{lt-ltb, le-ltb, le-leb, lt-leb, eq-eqb, ne-eqb, ltb-true, ltb-false, eqb-true, eqb-false}
+use borrow.Author.Tests.{lt-ltb, le-ltb, eq-eqb, ne-eqb, ltb-true, ltb-false, eqb-true, eqb-false}
 use lib.Dec.{eqb}
 use lib.ListN.{length}
 use Rattle.records.specs.declared.Answer.{Answer}
 use Rattle.records.specs.declared.Record.{Record}
-use Rattle.records.specs.Records.{recordBytes, recordAt, gapKind, recordCount}
-use Rattle.records.specs.Blocks.{mostRecords, refused, misfit, gapBroken, broken, late, recordRefusal, bad}
-use Rattle.records.specs.Blocks.{firstBad, blockAnswer, InOrder}
-use Rattle.numbers.proofs.Cases.{by-test, by-order}
+use Rattle.records.specs.Records.{recordBytes, recordAt, eventKind, gapKind, recordCount}
+use Rattle.records.specs.Blocks.{mostRecords, refused, misfit, gapBroken, broken, misplaced, late}
+use Rattle.records.specs.Blocks.{recordRefusal, bad, firstBad, blockAnswer, InOrder}
+use Rattle.numbers.proofs.Cases.{by-test, by-order, neither}
 use Rattle.numbers.proofs.First.{first-at, first-none, first-fails, first-passes}
 
 module _ (r : Record) where
@@ -28,6 +27,55 @@ module _ (r : Record) where
   pub broken-gap : r .kind ≡ gapKind → broken r ≡ gapBroken r
   unfolding broken
   broken-gap e = rw (le-ltb gapKind (r .kind) (omega arith), eq-eqb (r .kind) gapKind e)
+
+  event-of : broken r ≡ false → eqb (r .kind) gapKind ≡ false → r .kind ≡ eventKind
+  event-of sound other =
+      let apart = eqb-false (r .kind) gapKind other in
+      by-order gapKind (r .kind)
+      (λ l. absurd (true≢false (sym (broken-kind l) ∙ sound)))
+      (λ l. by-order 0 (r .kind) (λ m. absurd (apart (omega arith))) (λ m. omega arith))
+
+-- ## One record behind another
+
+module _ (a b : Record) where
+  pub placed-later : a .time < b .time → misplaced a b ≡ false
+  unfolding misplaced
+  placed-later l = rw (le-ltb (b .time) (a .time) (omega arith), ne-eqb (b .time) (a .time) (λ e. omega arith))
+
+  pub misplaced-below : b .time < a .time → misplaced a b ≡ true
+  unfolding misplaced
+  misplaced-below l = rw (lt-ltb (b .time) (a .time) l)
+
+  -- of one time no gap may be
+  pub misplaced-same : b .time ≡ a .time → misplaced a b ≡ eqb (a .kind) gapKind || eqb (b .kind) gapKind
+  unfolding misplaced
+  misplaced-same e = rw (le-ltb (b .time) (a .time) (omega arith), eq-eqb (b .time) (a .time) e)
+
+  pub placed-climbs : misplaced a b ≡ false → a .time ≤ b .time
+  placed-climbs h =
+      by-order (b .time) (a .time)
+      (λ l. absurd (true≢false (sym (misplaced-below l) ∙ h)))
+      (λ l. l)
+
+  pub placed-together :
+      broken a ≡ false → broken b ≡ false → misplaced a b ≡ false → a .time ≡ b .time
+      → (a .kind ≡ eventKind) × (b .kind ≡ eventKind)
+  placed-together sound also h e =
+      let kinds = neither (eqb (a .kind) gapKind) (eqb (b .kind) gapKind) (sym (misplaced-same (sym e)) ∙ h) in
+      (event-of a sound (kinds .0), event-of b also (kinds .1))
+
+  pub placed-by :
+      a .time ≤ b .time → (a .time ≡ b .time → (a .kind ≡ eventKind) × (b .kind ≡ eventKind)) → misplaced a b ≡ false
+  placed-by climbs together =
+      by-order (a .time) (b .time)
+      placed-later
+      (λ l.
+      let e : a .time ≡ b .time = omega arith in
+      let events = together e in
+      misplaced-same (sym e)
+      ∙ ap₂ _||_ (ne-eqb (a .kind) gapKind (λ z. omega arith)) (ne-eqb (b .kind) gapKind (λ z. omega arith)))
+
+-- ## The records of a block
 
 module _ (bytes : List ℕ) where
   pub refusal-6 : (i : ℕ) → broken (recordAt bytes i) ≡ true → recordRefusal bytes i ≡ 6
@@ -46,13 +94,9 @@ module _ (bytes : List ℕ) where
   unfolding late
   late-first i h = rw (le-ltb 0 i (omega arith))
 
-  pub late-at : (i : ℕ) → (i ≡ 0 → ⊥) → recordAt bytes i .time ≤ recordAt bytes (i - 1) .time → late bytes i ≡ true
+  pub late-at : (i : ℕ) → (i ≡ 0 → ⊥) → late bytes i ≡ misplaced (recordAt bytes (i - 1)) (recordAt bytes i)
   unfolding late
-  late-at i h l = rw (lt-ltb 0 i (omega arith)) (le-leb (recordAt bytes i .time) (recordAt bytes (i - 1) .time) l)
-
-  pub later-at : (i : ℕ) → (i ≡ 0 → ⊥) → recordAt bytes (i - 1) .time < recordAt bytes i .time → late bytes i ≡ false
-  unfolding late
-  later-at i h l = rw (lt-ltb 0 i (omega arith)) (lt-leb (recordAt bytes i .time) (recordAt bytes (i - 1) .time) l)
+  late-at i h = rw (lt-ltb 0 i (omega arith))
 
   pub misfit-odd : (length bytes % recordBytes ≡ 0 → ⊥) → misfit bytes ≡ true
   unfolding misfit
@@ -103,14 +147,23 @@ module _ (bytes : List ℕ) where
   sound-of : (i : ℕ) → recordRefusal bytes i ≡ 0 → broken (recordAt bytes i) ≡ false
   sound-of i h = by-test (broken (recordAt bytes i)) (λ b. let e = refusal-6 i b in absurd (omega arith)) (λ b. b)
 
-  rising-of : (i : ℕ) → recordRefusal bytes (suc i) ≡ 0 → recordAt bytes i .time < recordAt bytes (suc i) .time
-  rising-of i h =
-      by-order (recordAt bytes i .time) (recordAt bytes (suc i) .time) (λ l. l)
-      (λ l. absurd (refusal-late (suc i) (late-at (suc i) (λ z. omega arith) (simp unary-clauses l)) h))
+  late-next : (i : ℕ) → late bytes (suc i) ≡ misplaced (recordAt bytes i) (recordAt bytes (suc i))
+  late-next i =
+      let e : suc i - 1 ≡ i = omega arith in
+      late-at (suc i) (λ z. omega arith) ∙ ap (λ (k : ℕ). misplaced (recordAt bytes k) (recordAt bytes (suc i))) e
 
-  late-rising : (i : ℕ) → ((k : ℕ) → suc k ≡ i → recordAt bytes k .time < recordAt bytes i .time) → late bytes i ≡ false
-  late-rising zero r = late-first zero refl
-  late-rising (suc i) r = later-at (suc i) (λ z. omega arith) (simp unary-clauses (r i refl))
+  -- a record that is in order stands behind the one before it
+  placed-of :
+      (i : ℕ) → recordRefusal bytes (suc i) ≡ 0 → misplaced (recordAt bytes i) (recordAt bytes (suc i)) ≡ false
+  placed-of i h =
+      by-test (misplaced (recordAt bytes i) (recordAt bytes (suc i)))
+      (λ t. absurd (refusal-late (suc i) (late-next i ∙ t) h))
+      (λ t. t)
+
+  late-placed :
+      (i : ℕ) → ((k : ℕ) → suc k ≡ i → misplaced (recordAt bytes k) (recordAt bytes i) ≡ false) → late bytes i ≡ false
+  late-placed zero r = late-first zero refl
+  late-placed (suc i) r = late-next i ∙ r i refl
 
   whole-of : misfit bytes ≡ false → length bytes % recordBytes ≡ 0
   whole-of m =
@@ -127,7 +180,12 @@ module _ (bytes : List ℕ) where
         whole = whole-of m;
         few = few-of m;
         sound = λ i h. sound-of i (g i h);
-        rising = λ i h. rising-of i (g (suc i) h);
+        climbing = λ i h. placed-climbs (recordAt bytes i) (recordAt bytes (suc i)) (placed-of i (g (suc i) h));
+        together = λ i h e.
+            placed-together (recordAt bytes i) (recordAt bytes (suc i)) (sound-of i (g i (omega arith)))
+            (sound-of (suc i) (g (suc i) h))
+            (placed-of i (g (suc i) h))
+            e;
       }
 
   none-of : (i : ℕ) → bad bytes i ≡ false → recordRefusal bytes i ≡ 0
@@ -156,7 +214,10 @@ module _ (bytes : List ℕ) where
       → blockAnswer bytes ≡ record { code = 0; place = 0; used = recordCount bytes; readings = 0; peak = 0 }
   in-order-accepted o =
       answer-good (fitting (o .whole) (o .few))
-      (λ j h. refusal-none j (o .sound j h) (late-rising j (λ k e. subst (λ (i : ℕ). recordAt bytes k .time < recordAt bytes i .time) e (o .rising k (omega arith)))))
+      (λ j h. refusal-none j (o .sound j h) (late-placed j (λ k e. subst (λ (i : ℕ). misplaced (recordAt bytes k) (recordAt bytes i) ≡ false) e (placed k (omega arith)))))
+    where
+      placed : (k : ℕ) → suc k < recordCount bytes → misplaced (recordAt bytes k) (recordAt bytes (suc k)) ≡ false
+      placed k l = placed-by (recordAt bytes k) (recordAt bytes (suc k)) (o .climbing k l) (o .together k l)
 
 -- any two answers that meet the promise of `check_block` are equal
 pub check-block-unique : (bytes : List ℕ) (a b : Answer) → a ≡ blockAnswer bytes → b ≡ blockAnswer bytes → a ≡ b

@@ -3,12 +3,12 @@ use mathlib.Core.Path.{_≡_}
 use mathlib.Core.Bool.{Bool, true, false, not, _&&_, _||_}
 use mathlib.Core.List.{List}
 use Prim.Native.Nat.{ℕ, suc, _-_, _%_, _≤_, _<_}
-use lib.Dec.{eqb, ltb, leb}
+use lib.Dec.{eqb, ltb}
 use lib.ListN.{length}
 use Rattle.records.specs.declared.Answer.{Answer}
 use Rattle.records.specs.declared.Record.{Record}
 use Rattle.numbers.specs.Numbers.{first}
-use Rattle.records.specs.Records.{recordBytes, recordAt, recordCount, gapKind}
+use Rattle.records.specs.Records.{recordBytes, recordAt, recordCount, eventKind, gapKind}
 
 -- Rule 1.1
 abbrev pub mostRecords : ℕ
@@ -32,9 +32,15 @@ gapBroken r =
 unfoldable pub broken : Record → Bool
 broken r = ltb gapKind (r .kind) || (eqb (r .kind) gapKind && gapBroken r)
 
--- Rules 1.5, 8.7: record i does not come after the one before it; record 0 has none before it
+-- Rules 1.5, 8.7: b cannot stand right behind a: its time is below that of a, or the same and one of the two is a gap
+unfoldable pub misplaced : Record → Record → Bool
+misplaced a b =
+    ltb (b .time) (a .time)
+    || (eqb (b .time) (a .time) && (eqb (a .kind) gapKind || eqb (b .kind) gapKind))
+
+-- Rules 1.5, 8.7: record i cannot stand behind the one before it; record 0 has none before it
 unfoldable pub late : List ℕ → ℕ → Bool
-late bytes i = ltb 0 i && leb (recordAt bytes i .time) (recordAt bytes (i - 1) .time)
+late bytes i = ltb 0 i && misplaced (recordAt bytes (i - 1)) (recordAt bytes i)
 
 -- Rule 8.14: the number that record i is refused with; 0 where it is in order
 unfoldable pub recordRefusal : List ℕ → ℕ → ℕ
@@ -65,4 +71,7 @@ pub record InOrder (bytes : List ℕ) : Type 0 where
   pub whole : length bytes % recordBytes ≡ 0
   pub few : recordCount bytes ≤ mostRecords
   pub sound : (i : ℕ) → i < recordCount bytes → broken (recordAt bytes i) ≡ false
-  pub rising : (i : ℕ) → suc i < recordCount bytes → recordAt bytes i .time < recordAt bytes (suc i) .time
+  pub climbing : (i : ℕ) → suc i < recordCount bytes → recordAt bytes i .time ≤ recordAt bytes (suc i) .time
+  pub together :
+      (i : ℕ) → suc i < recordCount bytes → recordAt bytes i .time ≡ recordAt bytes (suc i) .time
+      → (recordAt bytes i .kind ≡ eventKind) × (recordAt bytes (suc i) .kind ≡ eventKind)

@@ -1,10 +1,10 @@
 // What the bytes of a block mean, and the check of a block.
 ghost use mathlib.Core.Path.{_≡_};
 ghost use mathlib.Core.Bool.{true, false};
-ghost use Prim.Native.Nat.{_+_, _*_, _<_, _≤_};
+ghost use Prim.Native.Nat.{_+_, _-_, _*_, _<_, _≤_};
 ghost use lib.ListN.{length};
 ghost use Rattle.records.specs.Records.{recordBytes, recordAt, classOf};
-ghost use Rattle.records.specs.Blocks.{gapBroken, broken, recordRefusal, blockAnswer, refused};
+ghost use Rattle.records.specs.Blocks.{gapBroken, broken, misplaced, recordRefusal, blockAnswer, refused};
 
 pub const RECORD_BYTES: usize = 16;
 
@@ -165,6 +165,25 @@ fn is_broken(block: &[u8], i: usize) -> bool
     is_gap_broken(unpack(block, i))
 }
 
+// Refusal 7, for a record that has one before it: two records may have one time if neither is a gap.
+fn is_misplaced(block: &[u8], i: usize) -> bool
+    requires { ⌜ (0 < i) × (recordBytes * i + recordBytes ≤ length (now block)) ⌝ }
+    ensures { λ b. ⌜ b ≡ misplaced (recordAt (now (block .entry)) (i - 1)) (recordAt (now (block .entry)) i) ⌝ }
+{
+    let time = time_at(block, i);
+    let before = time_at(block, i - 1);
+    if before < time {
+        return false;
+    }
+    if time < before {
+        return true;
+    }
+    if kind_at(block, i - 1) == GAP {
+        return true;
+    }
+    kind_at(block, i) == GAP
+}
+
 // What record i is refused by: 6, 7 or 0 for nothing.
 fn refusal_of(block: &[u8], i: usize) -> u8
     requires { ⌜ recordBytes * i + recordBytes ≤ length (now block) ⌝ }
@@ -176,7 +195,7 @@ fn refusal_of(block: &[u8], i: usize) -> u8
     if i == 0 {
         return 0;
     }
-    if time_at(block, i) <= time_at(block, i - 1) {
+    if is_misplaced(block, i) {
         return 7;
     }
     0

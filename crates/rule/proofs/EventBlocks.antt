@@ -113,5 +113,6 @@ events-in-order n m =
       whole = omega arith;
       few = omega arith;
       sound = λ i l. ap broken (record-is n i m (omega arith));
-      rising = λ i l. omega (arith, time-is n i m (omega arith), time-is n (suc i) m (omega arith));
+      climbing = λ i l. omega (arith, time-is n i m (omega arith), time-is n (suc i) m (omega arith));
+      together = λ i l same. absurd (omega (arith, time-is n i m (omega arith), time-is n (suc i) m (omega arith)));
     }

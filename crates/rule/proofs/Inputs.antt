@@ -1,8 +1,9 @@
--- What the caller's bytes stand for. A block in order is a list of records, each an event or a gap, whose times rise;
--- and the check of pattern and block accepts exactly what is in order, or gives a refusal from 1 to 7 with all counts
--- 0. Assumes nothing.
+-- What the caller's bytes stand for. A block in order is a list of records, each an event or a gap, whose times never
+-- fall, and a gap has a time of its own; and the check of pattern and block accepts exactly what is in order, or gives a
+-- refusal from 1 to 7 with all counts 0. Assumes nothing.
 use mathlib.Core.Path.{_≡_, refl, sym, ap, subst, _∙_}
 use mathlib.Core.Bool.{false}
+use mathlib.Core.Logic.{_⊎_, inl, inr, ⊎-elim}
 use mathlib.Core.List.{List}
 use Prim.Native.Nat.{ℕ, zero, suc, _≤_, _<_}
 use native.Mathlib.Omega.{arith}
@@ -13,7 +14,7 @@ use borrow.Author.Tests.{lt-ltb, le-ltb, eqb-true, eqb-false, eq-eqb, ne-eqb}
 use Rattle.numbers.proofs.Cases.{by-test, by-order}
 use Rattle.records.specs.declared.Answer.{Answer}
 use Rattle.records.specs.declared.Record.{Record}
-use Rattle.records.specs.Records.{recordAt, recordCount}
+use Rattle.records.specs.Records.{recordAt, recordCount, gapKind}
 use Rattle.records.specs.Blocks.{refused, mostRecords, misfit, broken, late, recordRefusal, firstBad, blockAnswer}
 use Rattle.records.specs.Blocks.{InOrder}
 use Rattle.records.proofs.Listed.{length-records, record-listed}
@@ -42,27 +43,53 @@ module _ (bytes : List ℕ) where
   block-time i h = ap (λ (r : Record). r .time) (block-record i h)
 
   module _ (ordered : InOrder bytes) where
-    rise : (i j : ℕ) → i < j → j < recordCount bytes → recordAt bytes i .time < recordAt bytes j .time
-    rise i zero l h = absurd (omega arith)
-    rise i (suc j) l h = go (rise i j) (ℕ-discrete i j)
+    climb : (i j : ℕ) → i ≤ j → j < recordCount bytes → recordAt bytes i .time ≤ recordAt bytes j .time
+    climb i zero l h = let e : i ≡ 0 = omega arith in rw e (omega arith)
+    climb i (suc j) l h = go (climb i j) (ℕ-discrete i (suc j))
       where
         go :
-            (i < j → j < recordCount bytes → recordAt bytes i .time < recordAt bytes j .time) → Dec (i ≡ j)
-            → recordAt bytes i .time < recordAt bytes (suc j) .time
-        go ih (yes e) = subst (λ k. recordAt bytes k .time < recordAt bytes (suc j) .time) (sym e) (ordered .rising j h)
-        go ih (no n) = omega (arith, ih (omega arith) (omega arith), ordered .rising j h)
+            (i ≤ j → j < recordCount bytes → recordAt bytes i .time ≤ recordAt bytes j .time) → Dec (i ≡ suc j)
+            → recordAt bytes i .time ≤ recordAt bytes (suc j) .time
+        go ih (yes e) = rw e (omega arith)
+        go ih (no n) = omega (arith, ih (omega arith) (omega arith), ordered .climbing j h)
 
     -- rule 1.5, of any two records
-    pub times-rise :
-        (i j : ℕ) → i < j → j < length (blockIn bytes) → timeAt (blockIn bytes) i < timeAt (blockIn bytes) j
-    times-rise i j l h = let c = block-length in omega (arith, rise i j l (omega arith), block-time i (omega arith), block-time j (omega arith))
-
     pub times-never-fall : TimesNeverFall (blockIn bytes)
-    times-never-fall i j l h = go (ℕ-discrete i j)
-      where
-        go : Dec (i ≡ j) → timeAt (blockIn bytes) i ≤ timeAt (blockIn bytes) j
-        go (yes e) = omega (arith, ap (timeAt (blockIn bytes)) e)
-        go (no n) = omega (arith, times-rise i j (omega arith) h)
+    times-never-fall i j l h = let c = block-length in omega (arith, climb i j l (omega arith), block-time i (omega arith), block-time j (omega arith))
+
+    -- a gap has a time of its own: what stands before it is earlier, what stands behind it later
+    beside :
+        (i : ℕ) → suc i < recordCount bytes
+        → (recordAt bytes i .kind ≡ gapKind) ⊎ (recordAt bytes (suc i) .kind ≡ gapKind)
+        → recordAt bytes i .time < recordAt bytes (suc i) .time
+    beside i l gap =
+        let up = ordered .climbing i l in
+        by-order (recordAt bytes i .time) (recordAt bytes (suc i) .time)
+        (λ m. m)
+        (λ m.
+        let events = ordered .together i l (omega arith) in
+        absurd (⊎-elim (λ e. omega arith) (λ e. omega arith) gap))
+
+    pub before-gap :
+        (i j : ℕ) → i < j → j < length (blockIn bytes) → recordIn (blockIn bytes) j .kind ≡ gapKind
+        → timeAt (blockIn bytes) i < timeAt (blockIn bytes) j
+    before-gap i zero l h gap = absurd (omega arith)
+    before-gap i (suc j) l h gap =
+        let c = block-length in
+        let kind = sym (ap (λ (r : Record). r .kind) (block-record (suc j) (omega arith))) ∙ gap in
+        let next = beside j (omega arith) (inr kind) in
+        let before = climb i j (omega arith) (omega arith) in
+        omega (arith, block-time i (omega arith), block-time (suc j) (omega arith))
+
+    pub behind-gap :
+        (i j : ℕ) → i < j → j < length (blockIn bytes) → recordIn (blockIn bytes) i .kind ≡ gapKind
+        → timeAt (blockIn bytes) i < timeAt (blockIn bytes) j
+    behind-gap i j l h gap =
+        let c = block-length in
+        let kind = sym (ap (λ (r : Record). r .kind) (block-record i (omega arith))) ∙ gap in
+        let next = beside i (omega arith) (inl kind) in
+        let after = climb (suc i) j (omega arith) (omega arith) in
+        omega (arith, block-time i (omega arith), block-time j (omega arith))
 
     pub few-records : length (blockIn bytes) ≤ mostRecords
     few-records = let c = block-length in omega (arith, ordered .few)

@@ -39,3 +39,4 @@ pub mod NotEqual
 pub mod GapMarks
 pub mod LostEvents
 pub mod ShutOutMarks
+pub mod ShutOutCycles

@@ -6,15 +6,16 @@ use mathlib.Core.List.{List}
 use Prim.Native.Nat.{ℕ, _+_, _-_, _*_, _/_, _%_, _≤_, _<_}
 use native.Mathlib.Nat.{zero-add}
 use native.Mathlib.Omega.{arith}
-use lib.Dec.{eqb, ltb, leb}
+use lib.Dec.{eqb, ltb}
 use lib.ListN.{length, getD, length-map, List·getD-map, List·getD-eq-default}
 use borrow.Author.Tests.{eqb-true, eqb-false, eq-eqb, ne-eqb}
 use Rattle.numbers.specs.Numbers.{number, field, upto, first}
 use Rattle.numbers.proofs.Cases.{by-test, by-order}
 use Rattle.numbers.proofs.Upto.{length-upto, getD-upto}
 use Rattle.records.specs.declared.Record.{Record}
-use Rattle.records.specs.Records.{recordBytes, recordAt, recordCount, eventKind}
-use Rattle.records.specs.Blocks.{mostRecords, refused, misfit, broken, late, recordRefusal, bad, firstBad, blockAnswer}
+use Rattle.records.specs.Records.{recordBytes, recordAt, recordCount, eventKind, gapKind}
+use Rattle.records.specs.Blocks.{mostRecords, refused, misfit, broken, misplaced, late, recordRefusal, bad, firstBad}
+use Rattle.records.specs.Blocks.{blockAnswer}
 use Rattle.rule.specs.Rule.{recordIn, behindEnd}
 use Rattle.rule.specs.Calls.{blockIn}
 use Rattle.rule.specs.Waves.{isWave, withoutWave, withoutWaves}
@@ -149,8 +150,12 @@ module _ (bytes : List ℕ) where
       (λ f. ap broken (gap-kept i (eqb-false (recordAt bytes i .kind) eventKind f)))
 
   late-same : (i : ℕ) → late (withoutWaves bytes) i ≡ late bytes i
-  unfolding late
-  late-same i = ap₂ (λ (t u : ℕ). ltb 0 i && leb t u) (same-fields i .time) (same-fields (i - 1) .time)
+  unfolding late misplaced
+  late-same i =
+      λ z. ltb 0 i
+      && (ltb (same-fields i .time z) (same-fields (i - 1) .time z)
+      || (eqb (same-fields i .time z) (same-fields (i - 1) .time z)
+      && (eqb (same-fields (i - 1) .kind z) gapKind || eqb (same-fields i .kind z) gapKind)))
 
   refusal-same : recordRefusal (withoutWaves bytes) ≡ recordRefusal bytes
   unfolding recordRefusal

@@ -10,7 +10,8 @@ use Rattle.records.specs.declared.Answer.{Answer}
 use Rattle.numbers.specs.Bits.{mask}
 use Rattle.numbers.specs.Numbers.{number, upto, firstFrom, first, count}
 use Rattle.records.specs.Records.{classOf, recordAt, recordsOf}
-use Rattle.records.specs.Blocks.{refused, misfit, gapBroken, broken, late, recordRefusal, bad, firstBad, blockAnswer}
+use Rattle.records.specs.Blocks.{refused, misfit, gapBroken, broken, misplaced, late, recordRefusal, bad, firstBad}
+use Rattle.records.specs.Blocks.{blockAnswer}
 use Rattle.patterns.specs.Patterns.{mostVariables, mostConditions, header, headerBroken, setNumber, groupFlag}
 use Rattle.patterns.specs.Patterns.{variableZero, leastSet, greatestSet, variableBroken, conditionOf, conditionZero}
 use Rattle.patterns.specs.Patterns.{conditionWord, formBroken, conditionBroken}
@@ -94,6 +95,17 @@ coresBlock = eventBytes 10 0 0 ++ eventBytes 20 1 0 ++ eventBytes 30 2 0
 -- an event, and a gap behind it
 abbrev pub lostBlock : List ℕ
 lostBlock = eventBytes 10 0 0 ++ gapBytes 20 1
+
+-- two events of one cycle, and one a cycle later
+abbrev pub cycleBlock : List ℕ
+cycleBlock = eventBytes 10 0 0 ++ eventBytes 10 0 0 ++ eventBytes 11 0 0
+
+-- an event, and a gap of its cycle behind it; a gap, and an event of its cycle behind it
+abbrev pub gapOfCycle : List ℕ
+gapOfCycle = eventBytes 10 0 0 ++ gapBytes 10 1
+
+abbrev pub eventOfGap : List ℕ
+eventOfGap = gapBytes 10 1 ++ eventBytes 10 0 0
 
 -- ## The table
 
@@ -240,11 +252,18 @@ completeNumbers = 16385 ∷ 0 ∷ []
 abbrev pub completeGap : Row
 completeGap = succeeds onePattern lostBlock fullLimit fullWork fullResult 2 1 1 completeNumbers
 
+-- of two sets of a variable each on two events of one cycle and one a cycle later: 0@0 1@2 and 0@1 1@2
+abbrev pub cycleNumbers : List ℕ
+cycleNumbers = 8194 ∷ 0 ∷ 4098 ∷ 8194 ∷ 1 ∷ 4098 ∷ []
+
+abbrev pub oneCycle : Row
+oneCycle = succeeds twoPattern cycleBlock fullLimit fullWork fullResult 6 2 3 cycleNumbers
+
 -- Rule 10.2: the rows, and others that theorems use
 abbrev pub table : List Row
 table =
     P1 ∷ P2 ∷ P3 ∷ P4 ∷ P5 ∷ P6 ∷ P7 ∷ P8 ∷ P9 ∷ P10 ∷ benchReport ∷ front ∷ frontReport ∷ oneStep ∷ otherCores
-    ∷ openGap ∷ completeGap ∷ []
+    ∷ openGap ∷ completeGap ∷ oneCycle ∷ []
 
 -- the slice of a listing: eight bytes a step, and zeros behind them
 abbrev pub listingOf : ℕ → List ℕ → List ℕ
@@ -317,7 +336,7 @@ agrees (lists pattern lent answer l) =
 
 pub table-agrees : all agrees table ≡ true
 unfolding agrees limitInOrder sameOutcome sameAnswer sameLines sameReading sameList mask number upto firstFrom first
-    count classOf recordAt recordsOf misfit gapBroken broken late recordRefusal bad firstBad blockAnswer header
+    count classOf recordAt recordsOf misfit gapBroken broken misplaced late recordRefusal bad firstBad blockAnswer header
     headerBroken setNumber groupFlag variableZero leastSet greatestSet variableBroken conditionOf conditionZero
     conditionWord formBroken conditionBroken filled patternUpTo patternOf firstBadVariable firstBadCondition
     patternAnswer conditionAt signed value constantValue orderOf comparedWith holds all keep filter collect opens loops

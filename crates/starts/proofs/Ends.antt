@@ -35,13 +35,13 @@ use Rattle.starts.proofs.Same.{length-emits, countsOf, same-answer, sam
 
 -- ## The input
 
--- times rise from record to record
+-- times never fall from record to record
 module _ (bytes : List ℕ) (o : InOrder bytes) where
-  times-rise : (j : ℕ) → j < recordCount bytes → (i : ℕ) → i ≤ j → recordAt bytes i .time ≤ recordAt bytes j .time
-  times-rise zero h i l = let e : i ≡ 0 = omega arith in rw e (omega arith)
-  times-rise (suc j) h i l =
-      let before = times-rise j (omega arith) in
-      let step = o .rising j h in
+  times-climb : (j : ℕ) → j < recordCount bytes → (i : ℕ) → i ≤ j → recordAt bytes i .time ≤ recordAt bytes j .time
+  times-climb zero h i l = let e : i ≡ 0 = omega arith in rw e (omega arith)
+  times-climb (suc j) h i l =
+      let before = times-climb j (omega arith) in
+      let step = o .climbing j h in
       ⊎-elim (λ e. rw e (omega arith)) (λ k. let b = before i (omega arith) in omega arith) (eq-or-lt-of-le {n = i} {m = suc j} l)
 
   pub never-fall : TimesNeverFall (recordsOf bytes)
@@ -49,7 +49,7 @@ module _ (bytes : List ℕ) (o : InOrder bytes) where
       let n = length-records bytes in
       let a = ap (λ (x : Record). x .time) (record-listed bytes i behindEnd (omega arith)) in
       let b = ap (λ (x : Record). x .time) (record-listed bytes j behindEnd (omega arith)) in
-      let t = times-rise j (omega arith) i l in
+      let t = times-climb j (omega arith) i l in
       omega arith
 
 module _ (pattern block : List ℕ) where

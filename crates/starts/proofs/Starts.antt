@@ -317,14 +317,14 @@ left-passed plan bytes n c duration most usable none now cans settled first is (
 -- and what is open from the first of them is open from the one behind them
 pub open-passed :
     (bytes : List ℕ) (duration opened : ℕ)
-    → ((i : ℕ) → suc i < recordCount bytes → recordAt bytes i .time < recordAt bytes (suc i) .time)
+    → ((i : ℕ) → suc i < recordCount bytes → recordAt bytes i .time ≤ recordAt bytes (suc i) .time)
     → opened ≤ recordCount bytes
     → (d i : ℕ) → OpenTo bytes duration i opened
     → OpenTo bytes duration (i + d) opened
-open-passed bytes duration opened rising few zero i near =
+open-passed bytes duration opened climbing few zero i near =
     let e : i ≡ i + 0 = omega arith in
     subst (λ (k : ℕ). OpenTo bytes duration k opened) e near
-open-passed bytes duration opened rising few (suc d) i near =
+open-passed bytes duration opened climbing few (suc d) i near =
     let e : i + 1 + d ≡ i + suc d = omega arith in
     subst (λ (k : ℕ). OpenTo bytes duration k opened) e
-    (open-passed bytes duration opened rising few d (i + 1) (open-later bytes duration i opened rising few near))
+    (open-passed bytes duration opened climbing few d (i + 1) (open-later bytes duration i opened climbing few near))

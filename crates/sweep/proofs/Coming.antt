@@ -1,11 +1,11 @@
--- All that the rule finds of a binding too many comes by own conditions alone. Assumes nothing.
+-- All that the rule finds of a binding too many comes by own conditions and the order mark alone. Assumes nothing.
 use mathlib.Core.Path.{_≡_, refl, sym, ap, ap₂, subst, _∙_}
 use mathlib.Core.Bool.{Bool, true, _&&_}
 use mathlib.Core.List.{List, [], _∷_, List·Memᴰ, List·Memᴰ·head, List·Memᴰ·tail, List·Memᴰ·not-nil}
 use Prim.Native.Nat.{ℕ, zero, suc, _+_, _-_, _≤_, _<_}
 use native.Mathlib.Omega.{arith}
 use lib.ListN.{length}
-use borrow.Author.Tests.{lt-ltb}
+use borrow.Author.Tests.{lt-ltb, ltb-true}
 use Rattle.numbers.specs.Numbers.{upto}
 use Rattle.numbers.specs.Bits.{bit, disjoint}
 use Rattle.numbers.proofs.Cases.{by-test, by-order}
@@ -16,9 +16,9 @@ use Rattle.records.proofs.Listed.{length-records}
 use Rattle.patterns.specs.declared.Pattern.{Pattern}
 use Rattle.patterns.specs.Patterns.{mostVariables, mostConditions}
 use Rattle.automaton.specs.Filtering.{all}
-use Rattle.automaton.proofs.All.{implies-of}
+use Rattle.automaton.proofs.All.{implies-of, implies-true}
 use Rattle.automaton.proofs.Membership.{clash, mem-collect, upto-below}
-use Rattle.rule.specs.Rule.{Block, Reading, binds, fires, isFull}
+use Rattle.rule.specs.Rule.{Block, Reading, binds, fires, lastOf, isFull}
 use Rattle.rule.specs.Promises.{mostBindings}
 use Rattle.rule.specs.Computed.{isEvent}
 use Rattle.rule.specs.Starts.Found.{closed, over}
@@ -38,7 +38,7 @@ use Rattle.reach.proofs.MaskInTurn.{low-bits}
 use Rattle.reach.proofs.Growing.{fires-in, grows-below}
 use Rattle.sweep.specs.Floors.{Open, Steps, Comes, Free}
 use Rattle.sweep.specs.Floors.Comes.{begins, waits, takes}
-use Rattle.sweep.proofs.Windows.{rises, open-before, open-first}
+use Rattle.sweep.proofs.Windows.{open-before, open-first}
 
 pub holding-nothing : holding [] .state ≡ 0
 unfolding holding binds
@@ -61,15 +61,16 @@ read-later p q j below =
       latest = below .latest;
     }
 
--- a reading that takes a binding too many at record x, by own conditions alone
+-- a reading that takes a binding too many at record x, by own conditions and the order mark alone
 pub record OverBy (plan bytes : List ℕ) (n c duration : ℕ) (tight : Bool) (x : ℕ) : Type 0 where
   pub start : ℕ
   pub bindings : ℕ
   pub state : ℕ
+  pub last : ℕ
   pub variable : ℕ
-  pub comes : Comes plan bytes n c duration tight start bindings state x
+  pub comes : Comes plan bytes n c duration tight start bindings state last x
   pub opened : Open bytes duration start x
-  pub steps : Steps plan bytes n c x state variable
+  pub steps : Steps plan bytes n c x bindings state last variable
   pub many : mostBindings ≤ bindings
 
 module _ (p : Pattern) (plan bytes : List ℕ) (n c duration : ℕ) (o : Of p plan bytes n c) (d : p .duration ≡ duration)
@@ -80,27 +81,33 @@ module _ (p : Pattern) (plan bytes : List ℕ) (n c duration : ℕ) (o : Of p pl
   pub known-variables : n ≤ mostVariables
   known-variables = usable .variables
 
-  -- a record that stands behind what is bound is later
+  -- the order mark by the latest binding
   later-than :
-      (q : Reading) (j : ℕ) → ReadBelow p j q → j < recordCount bytes → laterThan bytes j q ≡ true
+      (q : Reading) (j : ℕ) → (0 < length q → recordAt bytes (lastOf q) .time < recordAt bytes j .time)
+      → laterThan bytes j q ≡ true
   unfolding laterThan
-  later-than [] j below l = refl
-  later-than (b ∷ q) j below l =
-      let before = below .below b (List·Memᴰ·head refl) in
-      let rise = rises bytes (usable .rising) (b .at) j (omega arith) l in
-      lt-ltb (recordAt bytes (b .at) .time) (recordAt bytes j .time) (omega arith)
+  later-than [] j later = refl
+  later-than (b ∷ q) j later =
+      lt-ltb (recordAt bytes (b .at) .time) (recordAt bytes j .time) (later (omega arith))
 
-  -- where nothing joins variables a step of the own conditions fires
+  than-later :
+      (q : Reading) (j : ℕ) → laterThan bytes j q ≡ true → 0 < length q
+      → recordAt bytes (lastOf q) .time < recordAt bytes j .time
+  unfolding laterThan
+  than-later [] j t some = absurd (omega arith)
+  than-later (b ∷ q) j t some = ltb-true (recordAt bytes (b .at) .time) (recordAt bytes j .time) t
+
+  -- where nothing joins variables a step of the own conditions and the order mark fires
   pub steps-fires :
       Free plan → (q : Reading) (j v : ℕ) → ReadBelow p j q → j < recordCount bytes
-      → Steps plan bytes n c j (holding q .state) v
+      → Steps plan bytes n c j (length q) (holding q .state) (lastOf q) v
       → fires p B q v j ≡ true
   unfolding firesBy laterBy joinsBy joinHolds leavingBy holding
   steps-fires free q j v below l steps =
       let few = known-variables in
       let known = low-bits (leavingBy plan n (holding q .state)) n v (mask-bound (leavesBy plan (holding q .state)) n) (steps .leaves) in
       let leaves = sym (mask-inside (leavesBy plan (holding q .state)) n v known) ∙ steps .leaves in
-      let later = implies-of (disjoint (holding q .state) (marksIn plan v)) (laterThan bytes j q) (λ e. later-than q j below l) in
+      let later = implies-of (disjoint (holding q .state) (marksIn plan v)) (laterThan bytes j q) (λ e. later-than q j (λ some. steps .later some e)) in
       let joins = every-of (joinHolds plan bytes j v q) mostConditions
       (λ k m.
       implies-of (bit (joinsIn plan v) k) (all (pairHolds bytes j v (conditionIn plan k)) q)
@@ -113,8 +120,8 @@ module _ (p : Pattern) (plan bytes : List ℕ) (n c duration : ℕ) (o : Of p pl
   -- a step that fires
   pub fires-steps :
       (q : Reading) (j v : ℕ) → ReadBelow p j q → j < recordCount bytes → fires p B q v j ≡ true
-      → Steps plan bytes n c j (holding q .state) v
-  unfolding leavingBy
+      → Steps plan bytes n c j (length q) (holding q .state) (lastOf q) v
+  unfolding leavingBy laterBy holding
   fires-steps q j v below l f =
       let parts = fires-in p plan bytes n c o q j below q j v l (here refl refl) f in
       let few = known-variables in
@@ -122,6 +129,10 @@ module _ (p : Pattern) (plan bytes : List ℕ) (n c duration : ℕ) (o : Of p pl
       record {
         can = parts .can;
         leaves = mask-inside (leavesBy plan (holding q .state)) n v (omega (arith, o .variables)) ∙ parts .leaves;
+        later = λ some marked.
+            than-later q j
+            (implies-true (disjoint (holding q .state) (marksIn plan v)) (laterThan bytes j q) (parts .later) marked)
+            some;
       }
 
   -- with one binding more
@@ -134,15 +145,16 @@ module _ (p : Pattern) (plan bytes : List ℕ) (n c duration : ℕ) (o : Of p pl
     -- one binding more
     pub comes-more :
         (i : ℕ) (q : Reading) (j v : ℕ) → ReadBelow p j q → Open bytes duration i j → fires p B q v j ≡ true
-        → Comes plan bytes n c duration tight i (length q) (holding q .state) j
-        → Comes plan bytes n c duration tight i (length (withBinding q v j)) (holding (withBinding q v j) .state)
+        → Comes plan bytes n c duration tight i (length q) (holding q .state) (lastOf q) j
+        → Comes plan bytes n c duration tight i (length (withBinding q v j)) (holding (withBinding q v j) .state) j
         (suc j)
     unfolding grow
     comes-more i q j v below opened f comes =
         let few = known-variables in
         let known = fires-variable p B q v j f in
-        takes j v (length q) (holding q .state) refl refl
+        takes j v (length q) (holding q .state) (lastOf q) refl refl
         (sym (ap (λ (x : Held). x .state) (holding-grow q j v (omega (arith, o .variables)))))
+        refl
         opened
         (fires-steps q j v below (opened .inside) f)
         comes
@@ -167,7 +179,7 @@ module _ (p : Pattern) (plan bytes : List ℕ) (n c duration : ℕ) (o : Of p pl
     -- all that skip and branch find of a binding too many
     skip-overs :
         (m mark i j : ℕ) → m + j ≡ until p B i → i < j → (q : Reading) → ReadBelow p j q → 0 < length q
-        → Comes plan bytes n c duration tight i (length q) (holding q .state) j
+        → Comes plan bytes n c duration tight i (length q) (holding q .state) (lastOf q) j
         → (x : ℕ) → List·Memᴰ (over x) (skipUntil p B mark (until p B i) j q)
         → OverBy plan bytes n c duration tight x
     skip-overs zero mark i j e after q below some comes x found =
@@ -189,6 +201,7 @@ module _ (p : Pattern) (plan bytes : List ℕ) (n c duration : ℕ) (o : Of p pl
           start = i;
           bindings = length q;
           state = holding q .state;
+          last = lastOf q;
           variable = v .0;
           comes = comes;
           opened = opened;

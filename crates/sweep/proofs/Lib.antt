@@ -1,9 +1,12 @@
+pub mod Fresh
 pub mod States
 pub mod Starts
+pub mod Settling
 pub mod Advancing
 pub mod Windows
 pub mod Coming
 pub mod Finding
+pub mod Cycles
 pub mod Keeping
 pub mod Backing
 pub mod Going

@@ -1,5 +1,5 @@
--- The windows of records by the bytes of the block: times rise, a window that is past stays past, and what is open by
--- the bytes is open by the rule. Assumes nothing.
+-- The windows of records by the bytes of the block: times never fall, a window that is past stays past, and what is
+-- open by the bytes is open by the rule. Assumes nothing.
 use mathlib.Core.Path.{_≡_, sym, ap, ap₂, subst, _∙_}
 use mathlib.Core.Bool.{true}
 use mathlib.Core.List.{List}
@@ -33,31 +33,31 @@ past-more bytes duration j i here before k l =
     by-order k i (before k) (λ m. let z : i ≡ k = omega arith in subst (λ (x : ℕ). Past bytes duration x j) z here)
 
 module _ (bytes : List ℕ)
-    (rising : (i : ℕ) → suc i < recordCount bytes → recordAt bytes i .time < recordAt bytes (suc i) .time) where
-  rises-by : (d i : ℕ) → i + d < recordCount bytes → recordAt bytes i .time + d ≤ recordAt bytes (i + d) .time
-  rises-by zero i l = let z : i + 0 ≡ i = omega arith in rw z (omega arith)
-  rises-by (suc d) i l =
+    (climbing : (i : ℕ) → suc i < recordCount bytes → recordAt bytes i .time ≤ recordAt bytes (suc i) .time) where
+  climbs-by : (d i : ℕ) → i + d < recordCount bytes → recordAt bytes i .time ≤ recordAt bytes (i + d) .time
+  climbs-by zero i l = let z : i + 0 ≡ i = omega arith in rw z (omega arith)
+  climbs-by (suc d) i l =
       let z : i + suc d ≡ suc (i + d) = omega arith in
-      let before = rises-by d i (omega arith) in
-      let next = rising (i + d) (omega arith) in
-      subst (λ (x : ℕ). recordAt bytes i .time + suc d ≤ recordAt bytes x .time) (sym z) (omega arith)
+      let before = climbs-by d i (omega arith) in
+      let next = climbing (i + d) (omega arith) in
+      subst (λ (x : ℕ). recordAt bytes i .time ≤ recordAt bytes x .time) (sym z) (omega arith)
 
-  pub rises : (i j : ℕ) → i ≤ j → j < recordCount bytes → recordAt bytes i .time + (j - i) ≤ recordAt bytes j .time
-  rises i j a b =
+  pub climbs : (i j : ℕ) → i ≤ j → j < recordCount bytes → recordAt bytes i .time ≤ recordAt bytes j .time
+  climbs i j a b =
       let z : i + (j - i) ≡ j = omega arith in
-      subst (λ (x : ℕ). recordAt bytes i .time + (j - i) ≤ recordAt bytes x .time) z (rises-by (j - i) i (omega arith))
+      subst (λ (x : ℕ). recordAt bytes i .time ≤ recordAt bytes x .time) z (climbs-by (j - i) i (omega arith))
 
   -- what is past stays past
   pub past-later :
       (duration i j m : ℕ) → Past bytes duration i j → j ≤ m → m < recordCount bytes → Past bytes duration i m
-  past-later duration i j m past a b = let later = rises j m a b in omega arith
+  past-later duration i j m past a b = let later = climbs j m a b in omega arith
 
   -- and what begins later is open longer
   pub near-later :
       (duration first i j : ℕ) → recordAt bytes j .time ≤ recordAt bytes first .time + duration → first ≤ i
       → i < recordCount bytes
       → recordAt bytes j .time ≤ recordAt bytes i .time + duration
-  near-later duration first i j near a b = let later = rises first i a b in omega arith
+  near-later duration first i j near a b = let later = climbs first i a b in omega arith
 
 -- ## By the rule
 

@@ -3,12 +3,13 @@
 use mathlib.Core.Path.{_≡_}
 use mathlib.Core.Bool.{Bool, true, false}
 use mathlib.Core.List.{List}
+use mathlib.Core.Logic.{_⊎_}
 use Prim.Native.Nat.{ℕ, suc, _+_, _*_, _≤_, _<_}
 use lib.Bits.{bitAnd}
 use lib.ListN.{length, getD, set}
 use Rattle.numbers.specs.Bits.{bit}
 use Rattle.rule.specs.Promises.{mostBindings}
-use Rattle.sweep.specs.States.{mostStates, linkAt}
+use Rattle.sweep.specs.States.{mostStates, linkAt, freshMark}
 
 -- the places of a state: from no binding to as many as a reading can have
 abbrev pub rowPlaces : ℕ
@@ -133,3 +134,52 @@ pub record Moved (old leaves links : List ℕ) (count can low : ℕ) (tight : Bo
     (is : Bool) : Type 0 where
   pub over : IsOver (set old 0 (j + 1)) leaves count can low is
   pub moved : is ≡ false → Advanced (set old 0 (j + 1)) leaves links count can low tight new 0
+
+-- ## Settled states
+
+-- the starts of the state at b + 1, up to `done`, are those of the state at b now, where it had less
+pub record RowFolded (old : List ℕ) (b : ℕ) (new : List ℕ) (done : ℕ) : Type 0 where
+  pub size : length new ≡ length old
+  pub above : (k : ℕ) → k < done → getD old (placeOf k b) 0 ≤ getD new (placeOf k b) 0
+  pub here : (k : ℕ) → k < done → getD old (placeOf k (suc b)) 0 ≤ getD new (placeOf k b) 0
+  pub only :
+      (k : ℕ) → k < done
+      → (getD new (placeOf k b) 0 ≡ getD old (placeOf k b) 0)
+      ⊎ (getD new (placeOf k b) 0 ≡ getD old (placeOf k (suc b)) 0)
+  pub gone : (k : ℕ) → k < done → getD new (placeOf k (suc b)) 0 ≡ 0
+  pub others :
+      (place : ℕ) → ((k : ℕ) → k < done → place ≡ placeOf k b → ⊥)
+      → ((k : ℕ) → k < done → place ≡ placeOf k (suc b) → ⊥)
+      → getD new place 0 ≡ getD old place 0
+
+-- where the state at b + 1 is fresh
+pub data FreshFolded (old states : List ℕ) (b : ℕ) (new : List ℕ) : Type 0 where
+  calm : getD states (suc b) 0 < freshMark → new ≡ old → FreshFolded old states b new
+  fresh : freshMark ≤ getD states (suc b) 0 → RowFolded old b new rowPlaces → FreshFolded old states b new
+
+-- where the start of a place is from: it stays where the state is not fresh, or it was that of the fresh state behind
+pub data Settles (old states : List ℕ) (done k at start : ℕ) : Type 0 where
+  empty : start ≡ 0 → Settles old states done k at start
+  stays :
+      start ≡ getD old (placeOf k at) 0 → (0 < at → at < done → getD states at 0 < freshMark)
+      → Settles old states done k at start
+  folds :
+      suc at < done → freshMark ≤ getD states (suc at) 0 → start ≡ getD old (placeOf k (suc at)) 0
+      → Settles old states done k at start
+
+-- none of the states before `done` is fresh now
+pub record Settled (old states : List ℕ) (new : List ℕ) (done : ℕ) : Type 0 where
+  pub size : length new ≡ length old
+  pub ahead : (k at : ℕ) → k ≤ mostBindings → done ≤ at → getD new (placeOf k at) 0 ≡ getD old (placeOf k at) 0
+  pub above :
+      (k at : ℕ) → k ≤ mostBindings → getD states at 0 < freshMark
+      → getD old (placeOf k at) 0 ≤ getD new (placeOf k at) 0
+  pub here :
+      (k at : ℕ) → k ≤ mostBindings → suc at < done → freshMark ≤ getD states (suc at) 0
+      → getD old (placeOf k (suc at)) 0 ≤ getD new (placeOf k at) 0
+  pub only : (k at : ℕ) → k ≤ mostBindings → Settles old states done k at (getD new (placeOf k at) 0)
+
+-- where a new cycle begins
+pub data SettledBefore (old states : List ℕ) (count cycle time : ℕ) (new : List ℕ) : Type 0 where
+  goesOn : time ≡ cycle → new ≡ old → SettledBefore old states count cycle time new
+  renewed : (time ≡ cycle → ⊥) → Settled old states new count → SettledBefore old states count cycle time new

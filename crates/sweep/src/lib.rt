@@ -2,7 +2,7 @@
 ghost use mathlib.Core.Path.{_≡_};
 ghost use mathlib.Core.Bool.{true};
 ghost use mathlib.Core.Logic.{_⊎_};
-ghost use Prim.Native.Nat.{ℕ, _+_, _^_, _<_, _≤_};
+ghost use Prim.Native.Nat.{ℕ, suc, _+_, _^_, _<_, _≤_};
 ghost use lib.Dec.{ltb};
 ghost use lib.ListN.{length, getD, replicate};
 ghost use Rattle.numbers.specs.Bits.{bit};
@@ -12,17 +12,24 @@ ghost use Rattle.patterns.specs.Patterns.{mostVariables};
 ghost use Rattle.rule.specs.Promises.{mostBindings};
 ghost use Rattle.firing.specs.Plan.{planRoom};
 ghost use Rattle.reach.specs.Readings.{Cans, Usable};
-ghost use Rattle.sweep.specs.States.{mostStates, linkAt, mostLinks, Put, Linked, Listed, Inside};
+ghost use Rattle.sweep.specs.States.{isCalm, calmBy, freshMark, freshOf, stateOf, leavesFrom, Stands};
+ghost use Rattle.sweep.specs.States.{mostStates, linkAt, mostLinks, Put, PutFresh, Linked, Listed, Inside};
 ghost use Rattle.sweep.specs.Starts.{rowPlaces, mostPlaces, LateOnes, RowCleared, RowRaised, Spread, StateMoved};
-ghost use Rattle.sweep.specs.Starts.{IsOver, Advanced, Moved};
+ghost use Rattle.sweep.specs.Starts.{IsOver, Advanced, Moved, RowFolded, FreshFolded, Settled, SettledBefore};
 ghost use Rattle.sweep.specs.Floors.{Past, FirstOpen, Free, Floor, Reached};
 
-// How many states are listed at most. Two sets of six variables have 127, and no other pattern has more.
+// How many states are listed at most. Two sets of six variables have 127 and one that is listed fresh too, and no other
+// pattern has more.
 const MOST_STATES: usize = 128;
 
 const MOST_LINKS: usize = MOST_STATES * patterns::MOST_VARIABLES;
 
-// Where a plan has the conditions that join each variable.
+// What is added to a state whose latest binding is of the cycle at hand.
+const FRESH: u64 = 1 << patterns::MOST_VARIABLES;
+
+// Where a plan has the order marks of each variable, and the conditions that join it.
+const FIRST_MARKS: usize = patterns::MOST_CONDITIONS + 2 * patterns::MOST_VARIABLES;
+
 const FIRST_JOINS: usize = patterns::MOST_CONDITIONS + 3 * patterns::MOST_VARIABLES;
 
 const ROW_PLACES: usize = slots::MOST_BINDINGS + 1;
@@ -33,6 +40,63 @@ const MOST_PLACES: usize = MOST_STATES * ROW_PLACES;
 pub struct Swept {
     pub floor: usize,
     pub exact: bool,
+}
+
+// ## Fresh states
+
+// Whether v leaves a state without the order mark.
+fn is_calm(plan: &[u64; firing::PLAN_ROOM], state: u64, v: usize) -> bool
+    requires { ⌜ (length (now plan) ≡ planRoom) × (v < mostVariables) ⌝ }
+    ensures { λ r. ⌜ r ≡ isCalm (now (plan .entry)) state v ⌝ }
+{
+    if firing::leaves(plan, state, v) {
+        return !numbers::is_disjoint(state, plan[FIRST_MARKS + v]);
+    }
+    false
+}
+
+// The variables that do.
+fn calm(plan: &[u64; firing::PLAN_ROOM], n: usize, state: u64) -> u64
+    requires { ⌜ (length (now plan) ≡ planRoom) × (n ≤ mostVariables) ⌝ }
+    ensures { λ r. ⌜ r ≡ calmBy (now (plan .entry)) n state ⌝ }
+{
+    let mut leave = 0;
+    let mut v = 0;
+    while v < n {
+        leave = leave + numbers::weight_if(is_calm(plan, state, v), v);
+        v += 1;
+    }
+    leave
+}
+
+// The number that stands for a state whose latest binding is of the cycle at hand: where no variable leaves by the
+// order mark it makes no difference.
+fn fresh_of(plan: &[u64; firing::PLAN_ROOM], n: usize, state: u64) -> u64
+    requires { ⌜ (length (now plan) ≡ planRoom) × (n ≤ mostVariables) × (state < freshMark) ⌝ }
+    ensures { λ r. ⌜ r ≡ freshOf (now (plan .entry)) n state ⌝ }
+{
+    if calm(plan, n, state) == reach::leaving(plan, n, state) {
+        return state;
+    }
+    FRESH + state
+}
+
+// The state that a number stands for.
+fn state_of(x: u64) -> u64
+    ensures { λ r. ⌜ r ≡ stateOf x ⌝ }
+{
+    if x < FRESH { x } else { x - FRESH }
+}
+
+// The variables that leave it.
+fn leaves_from(plan: &[u64; firing::PLAN_ROOM], n: usize, x: u64) -> u64
+    requires { ⌜ (length (now plan) ≡ planRoom) × (n ≤ mostVariables) ⌝ }
+    ensures { λ r. ⌜ r ≡ leavesFrom (now (plan .entry)) n x ⌝ }
+{
+    if x < FRESH {
+        return reach::leaving(plan, n, x);
+    }
+    calm(plan, n, x - FRESH)
 }
 
 // ## The states
@@ -77,6 +141,39 @@ fn put(states: &mut [u64; MOST_STATES], count: usize, state: u64) -> usize
     at
 }
 
+// The place of a state that is fresh, with its state right before it; both are written there where there is room.
+fn put_fresh(
+    plan: &[u64; firing::PLAN_ROOM],
+    n: usize,
+    states: &mut [u64; MOST_STATES],
+    count: usize,
+    state: u64,
+) -> usize
+    requires { ⌜ (length (now plan) ≡ planRoom) × (n ≤ mostVariables) × (length (now states) ≡ mostStates)
+        × (count ≤ mostStates) × (state < freshMark) ⌝ }
+    ensures { λ at. ⌜ PutFresh (now (plan .entry)) n (now (states .entry)) count state (now (states .exit)) at ⌝ }
+{
+    let at = put(states, count, state);
+    if at == MOST_STATES {
+        return at;
+    }
+    let fresh = fresh_of(plan, n, state);
+    if fresh == state {
+        return at;
+    }
+    if at + 1 == MOST_STATES {
+        return MOST_STATES;
+    }
+    if count <= at + 1 {
+        states[at + 1] = fresh;
+        return at + 1;
+    }
+    if states[at + 1] == fresh {
+        return at + 1;
+    }
+    MOST_STATES
+}
+
 // The larger of two.
 fn larger(a: usize, b: usize) -> usize
     ensures { λ r. ⌜ (a ≤ r) × (b ≤ r) × ((m : ℕ) → a ≤ m → b ≤ m → r ≤ m) ⌝ }
@@ -84,29 +181,32 @@ fn larger(a: usize, b: usize) -> usize
     if a < b { b } else { a }
 }
 
-// Links the state at a place by each variable that leaves it, and lists the states that they lead to: these have a
-// variable more, or are the state itself, so none stands earlier. Gives the number of states then; where there is no
+// Links the state at a place by each variable that leaves it, and lists the states that they lead to, fresh: these have
+// a variable more, or are the state itself, so none stands earlier. Gives the number of states then; where there is no
 // room for them, more than there can be.
 fn link(
+    plan: &[u64; firing::PLAN_ROOM],
+    n: usize,
     states: &mut [u64; MOST_STATES],
     links: &mut [u8; MOST_LINKS],
     count: usize,
     at: usize,
     leave: u64,
 ) -> usize
-    requires { ⌜ (length (now states) ≡ mostStates) × (length (now links) ≡ mostLinks) × (at < count)
-        × (count ≤ mostStates) × (leave < 2 ^ mostVariables) ⌝ }
+    requires { ⌜ (length (now plan) ≡ planRoom) × (n ≤ mostVariables) × (length (now states) ≡ mostStates)
+        × (length (now links) ≡ mostLinks) × (at < count) × (count ≤ mostStates) × (leave < 2 ^ mostVariables)
+        × ((i : ℕ) → i < count → Stands (now states) i) ⌝ }
     ensures { λ more. ⌜ (more ≤ mostStates
-        → Linked (now (states .entry)) (now (links .entry)) count at leave
+        → Linked (now (plan .entry)) n (now (states .entry)) (now (links .entry)) count at leave
         (now (states .exit)) (now (links .exit)) more) ⌝ }
 {
-    let from = states[at];
+    let from = state_of(states[at]);
     let mut more = count;
     let mut rest = leave;
     while rest != 0 {
         let v = numbers::lowest_bit(rest);
         rest = numbers::without_bit(rest, v);
-        let to = put(states, more, numbers::with_bit(from, v));
+        let to = put_fresh(plan, n, states, more, numbers::with_bit(from, v));
         if to == MOST_STATES {
             return MOST_STATES + 1;
         }
@@ -136,9 +236,9 @@ fn list_states(
     let mut count = 1;
     let mut at = 0;
     while at < count {
-        let leave = reach::leaving(plan, n, states[at]);
+        let leave = leaves_from(plan, n, states[at]);
         leaves[at] = leave;
-        count = link(states, links, count, at, leave);
+        count = link(plan, n, states, links, count, at, leave);
         if MOST_STATES < count {
             return count;
         }
@@ -341,6 +441,66 @@ fn is_over_at(
     false
 }
 
+// ## Settled states
+
+// The starts of the state at b + 1 become those of the state at b, where it has earlier ones.
+fn fold_row(starts: &mut [u16; MOST_PLACES], b: usize)
+    requires { ⌜ (length (now starts) ≡ mostPlaces) × (suc b < mostStates) ⌝ }
+    ensures { λ r. ⌜ RowFolded (now (starts .entry)) b (now (starts .exit)) rowPlaces ⌝ }
+{
+    let row = b * ROW_PLACES;
+    let behind = row + ROW_PLACES;
+    let mut k = 0;
+    while k < ROW_PLACES {
+        starts[row + k] = later(starts[row + k], starts[behind + k]);
+        starts[behind + k] = 0;
+        k += 1;
+    }
+}
+
+// The same where the state at b + 1 is fresh.
+fn fold_fresh(starts: &mut [u16; MOST_PLACES], states: &[u64; MOST_STATES], b: usize)
+    requires { ⌜ (length (now starts) ≡ mostPlaces) × (length (now states) ≡ mostStates) × (suc b < mostStates) ⌝ }
+    ensures { λ r. ⌜ FreshFolded (now (starts .entry)) (now (states .entry)) b (now (starts .exit)) ⌝ }
+{
+    if states[b + 1] < FRESH {
+        return;
+    }
+    fold_row(starts, b);
+}
+
+// No state is fresh any more.
+fn settle(starts: &mut [u16; MOST_PLACES], states: &[u64; MOST_STATES], count: usize)
+    requires { ⌜ (length (now starts) ≡ mostPlaces) × (length (now states) ≡ mostStates) × (0 < count)
+        × (count ≤ mostStates) ⌝ }
+    ensures { λ r. ⌜ Settled (now (starts .entry)) (now (states .entry)) (now (starts .exit)) count ⌝ }
+{
+    let mut at = 1;
+    while at < count {
+        fold_fresh(starts, states, at - 1);
+        at += 1;
+    }
+}
+
+// The same where a new cycle begins.
+fn settle_before(
+    starts: &mut [u16; MOST_PLACES],
+    states: &[u64; MOST_STATES],
+    count: usize,
+    cycle: u64,
+    time: u64,
+)
+    requires { ⌜ (length (now starts) ≡ mostPlaces) × (length (now states) ≡ mostStates) × (0 < count)
+        × (count ≤ mostStates) ⌝ }
+    ensures { λ r. ⌜ SettledBefore (now (starts .entry)) (now (states .entry)) count cycle time
+        (now (starts .exit)) ⌝ }
+{
+    if time == cycle {
+        return;
+    }
+    settle(starts, states, count);
+}
+
 // ## The sweep
 
 // Whether a time is more than the duration after the first.
@@ -385,8 +545,8 @@ fn is_free(plan: &[u64; firing::PLAN_ROOM]) -> bool
     true
 }
 
-// The first record at which a reading could take a binding too many, by own conditions alone; the number of records
-// where there is none. Where no condition joins variables, one does take it there.
+// The first record at which a reading could take a binding too many, by own conditions and the order mark alone; the
+// number of records where there is none. Where no condition joins variables, one does take it there.
 pub fn sweep(
     block: &[u8],
     plan: &[u64; firing::PLAN_ROOM],
@@ -412,6 +572,7 @@ pub fn sweep(
     let tight = is_free(plan);
     let mut starts = no_starts();
     let count = block.len() / records::RECORD_BYTES;
+    let mut cycle = 0;
     let mut low = 0;
     let mut j = 0;
     while j < count {
@@ -425,6 +586,9 @@ pub fn sweep(
             j += 1;
             continue;
         }
+        let time = records::time_at(block, j);
+        settle_before(&mut starts, &states, known, cycle, time);
+        cycle = time;
         low = first_open(block, duration, low, j);
         if is_over_at(
             &mut starts,

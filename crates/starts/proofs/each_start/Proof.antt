@@ -95,7 +95,7 @@ loop-again c =
       h .inv .4,
       h .inv .5,
       subst (λ (k : ℕ). OpenTo (a .block .now) (a .duration) k (h .opened)) e
-          (open-passed (a .block .now) (a .duration) (h .opened) (st .pre .0 .rising) (omega (arith, h .inv .5)) (next .result - h .i) (h .i) (h .inv .6)),
+          (open-passed (a .block .now) (a .duration) (h .opened) (st .pre .0 .climbing) (omega (arith, h .inv .5)) (next .result - h .i) (h .i) (h .inv .6)),
     )
 
 kind-at-requires : tie.Need-kind-at-requires Inv-loop μ-loop
@@ -122,7 +122,7 @@ loop-again-2 c =
       left-more (a .plan .now) (a .block .now) (a .n) (a .c) (a .duration) (a .most) (sinkOf (a .result .now) noneYet) (h .i) now (h .inv .3) inside now done,
       h .inv .4,
       h .inv .5,
-      open-later (a .block .now) (a .duration) (h .i) (h .opened) (st .pre .0 .rising) (h .inv .5) (h .inv .6),
+      open-later (a .block .now) (a .duration) (h .i) (h .opened) (st .pre .0 .climbing) (h .inv .5) (h .inv .6),
     )
 
 window-at-requires : tie.Need-window-at-requires Inv-loop μ-loop
@@ -214,7 +214,7 @@ loop-again-3 c =
       left-more (a .plan .now) (a .block .now) (a .n) (a .c) (a .duration) (a .most) (sinkOf (a .result .now) noneYet) (h .i) then left inside then done,
       omega arith,
       w .ensures .block,
-      open-later (a .block .now) (a .duration) (h .i) (w .result .until) (st .pre .0 .rising) (w .ensures .block) (w .ensures .opened),
+      open-later (a .block .now) (a .duration) (h .i) (w .result .until) (st .pre .0 .climbing) (w .ensures .block) (w .ensures .opened),
     )
 
 slice-aggregate-branch : tie.Need-slice-aggregate-branch Inv-loop μ-loop
@@ -314,7 +314,7 @@ loop-again-4 c =
       left-more (a .plan .now) (a .block .now) (a .n) (a .c) (a .duration) (a .most) (sinkOf (a .result .now) noneYet) (h .i) then left inside after done,
       ended,
       w .ensures .block,
-      open-later (a .block .now) (a .duration) (h .i) (w .result .until) (st .pre .0 .rising) (w .ensures .block) (w .ensures .opened),
+      open-later (a .block .now) (a .duration) (h .i) (w .result .until) (st .pre .0 .climbing) (w .ensures .block) (w .ensures .opened),
     )
 
 same-length-2 : tie.Need-same-length-2 Inv-loop μ-loop

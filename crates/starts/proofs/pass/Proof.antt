@@ -21,7 +21,7 @@ use borrow.Author.Needs.{needs}
 use Rattle.starts.proofs.pass.Statement.{statement}
 use Rattle.starts.proofs.pass.Tie as tie
 
-module _ (p : Pattern) (block plan : List ℕ) (good : InOrder p) (rising : BlockInOrder block)
+module _ (p : Pattern) (block plan : List ℕ) (good : InOrder p) (blocks : BlockInOrder block)
     (made : IsPlan p plan) where
   usable : Usable plan block (p .n) (p .c)
   usable =
@@ -30,8 +30,8 @@ module _ (p : Pattern) (block plan : List ℕ) (good : InOrder p) (rising : Bloc
         classed = classed-plan p good plan made;
         variables = good .few;
         conditions = good .fewConditions;
-        records = rising .few;
-        rising = rising .rising;
+        records = blocks .few;
+        climbing = blocks .climbing;
       }
 
   of : Of p plan block (p .n) (p .c)
@@ -39,7 +39,7 @@ module _ (p : Pattern) (block plan : List ℕ) (good : InOrder p) (rising : Bloc
       record {
         order = good;
         made = made;
-        rising = never-fall block rising;
+        rising = never-fall block blocks;
         variables = refl;
         conditions = refl;
       }

@@ -6,7 +6,8 @@ use Prim.Native.Nat.{ℕ, _-_, _≤_, _<_, _^_}
 use lib.ListN.{getD}
 use Rattle.patterns.specs.Patterns.{mostVariables}
 use Rattle.sweep.specs.States.{mostStates, Listed}
-use Rattle.sweep.proofs.States.{listed-none, listed-more, leaving-bound}
+use Rattle.sweep.proofs.States.{listed-none, listed-more}
+use Rattle.sweep.proofs.Fresh.{leaves-bound}
 use borrow.Author.Needs.{needs}
 use Rattle.sweep.proofs.list_states.Statement.{statement}
 use Rattle.sweep.proofs.list_states.Tie as tie
@@ -23,14 +24,14 @@ loop-holds c =
     let pre = c .pre in
     (omega arith, listed-none (a .plan .now) (a .n) (pre .1) (a .states .now) (a .leaves .now) (a .links .now) (pre .2) (pre .3) (pre .4))
 
-mul-leaving : tie.Need-mul-leaving Inv-loop μ-loop
-mul-leaving c = search needs
+mul-leaves-from : tie.Need-mul-leaves-from Inv-loop μ-loop
+mul-leaves-from c = search needs
 
-element-copy-out-leaving : tie.Need-element-copy-out-leaving Inv-loop μ-loop
-element-copy-out-leaving c = search needs
+element-copy-out-leaves-from : tie.Need-element-copy-out-leaves-from Inv-loop μ-loop
+element-copy-out-leaves-from c = search needs
 
-leaving-requires : tie.Need-leaving-requires Inv-loop μ-loop
-leaving-requires c κs = search needs
+leaves-from-requires : tie.Need-leaves-from-requires Inv-loop μ-loop
+leaves-from-requires c κs = search needs
 
 mul-leaves : tie.Need-mul-leaves Inv-loop μ-loop
 mul-leaves c = search needs
@@ -43,11 +44,12 @@ link-requires c κs =
     let h = c .before .before .before .before .before .loop in
     let a = c .before .before .before .before .before .before .args in
     let l = h .inv .1 in
-    let leave = c .before .before .leaving in
-    (l .size, l .room, c .before .before .before .before .loop-test .taken, l .few, subst (λ (x : ℕ). x < 2 ^ mostVariables) (sym (leave .ensures)) (leaving-bound (a .plan .now) (a .n) (getD (h .states) (h .at) 0) (c .before .before .before .before .before .before .pre .1)))
+    let leave = c .before .before .leaves-from in
+    let pre = c .before .before .before .before .before .before .pre in
+    (pre .0, pre .1, l .size, l .room, c .before .before .before .before .loop-test .taken, l .few, subst (λ (x : ℕ). x < 2 ^ mostVariables) (sym (leave .ensures)) (leaves-bound (a .plan .now) (a .n) (getD (h .states) (h .at) 0) (pre .1)), l .stands)
 
 returns : tie.Need-returns Inv-loop μ-loop
-returns c = search needs
+returns c = let many = c .if1 .taken in λ l. absurd (omega arith)
 
 add-at : tie.Need-add-at Inv-loop μ-loop
 add-at c = search needs
@@ -59,13 +61,13 @@ loop-again : tie.Need-loop-again Inv-loop μ-loop
 loop-again c =
     let h = c .before .before .before .before .before .before .before .loop in
     let a = c .before .before .before .before .before .before .before .before .args in
-    let leave = c .before .before .before .before .leaving in
+    let leave = c .before .before .before .before .leaves-from in
     let linked = c .before .link in
     let few = c .if1 .left in
     let known = c .before .before .before .before .before .before .loop-test .taken in
     let is = linked .ensures few in
     let from = is .from in
-    (omega arith, listed-more (a .plan .now) (a .n) (c .before .before .before .before .before .before .before .before .pre .1) (h .states) (h .leaves) (h .links) (h .count) (h .at) (leave .result) (linked .last .0) (linked .last .1 .0) (linked .result) (h .inv .1) known (leave .ensures) is few)
+    (omega arith, listed-more (a .plan .now) (a .n) (c .before .before .before .before .before .before .before .before .pre .1) (h .states) (h .leaves) (h .links) (h .count) (h .at) (leave .result) (linked .last .1 .1 .0) (linked .last .1 .1 .1 .0) (linked .result) (h .inv .1) known (leave .ensures) is few)
 
 returns-2 : tie.Need-returns-2 Inv-loop μ-loop
 returns-2 c =
@@ -82,9 +84,9 @@ list-states-spec =
     Inv-loop
     μ-loop
     loop-holds
-    mul-leaving
-    element-copy-out-leaving
-    leaving-requires
+    mul-leaves-from
+    element-copy-out-leaves-from
+    leaves-from-requires
     mul-leaves
     element-write-leaves
     link-requires
