@@ -1,5 +1,7 @@
 // The states and the steps of a checked pattern's automaton, and its listing. A state is a number: variable j
 // has weight 2^j.
+#![tactic(auto)]
+
 ghost use Rattle.std.specs.Prelude.{◌≡◌, not, ◌&&◌, ◌+◌, ◌*◌, ◌^◌, ◌<◌, ◌≤◌, eqb, ltb, length};
 ghost use Rattle.numbers.specs.Numbers.{one_if, field, written};
 ghost use Rattle.records.specs.Blocks.{refused};

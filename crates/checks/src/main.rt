@@ -6,6 +6,8 @@
 //                                PLACE (a number that is left out is 0)
 //   pattern HEX..                a pattern of these bytes
 // Any other row, as one that begins with #, is written as it is.
+#![tactic(auto)]
+
 mod block_rows;
 mod pattern_rows;
 

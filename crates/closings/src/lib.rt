@@ -1,4 +1,6 @@
 // How readings close: the mark that a gap gives, and where the readings of a start close.
+#![tactic(auto)]
+
 ghost use Rattle.std.specs.Prelude.{◌≡◌, ◌+◌, ◌≤◌, ◌<◌, max, ltb, length};
 ghost use Rattle.records.specs.Records.{record_count};
 ghost use Rattle.patterns.specs.Patterns.{most_variables};

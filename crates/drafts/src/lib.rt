@@ -1,4 +1,6 @@
 // A text read line by line: a draft holds what the lines so far have told.
+#![tactic(auto)]
+
 ghost use Rattle.std.specs.Prelude.{◌≡◌, false, List, [], ◌∷◌, ◌++◌, ◌+◌, ◌*◌, ◌-◌, ◌^◌, ◌≤◌, min};
 ghost use Rattle.patterns.specs.Patterns.{last_operator};
 ghost use Rattle.form.specs.Form.{IsLetter, space, set_word, when_word, within_word};

@@ -1,5 +1,7 @@
 // Whether a reading can still take a binding too many (Rule 8.9): a pass that asks only for that need not follow a
 // reading that can't.
+#![tactic(auto)]
+
 ghost use Rattle.std.specs.Prelude.{◌≡◌, false, List, ℕ, ◌+◌, ◌^◌, ◌≤◌, ◌<◌, length};
 ghost use Rattle.patterns.specs.Patterns.{most_variables};
 ghost use Rattle.rule.specs.Promises.{most_bindings};

@@ -1,4 +1,6 @@
 // Whether a reading can still become full.
+#![tactic(auto)]
+
 ghost use Rattle.std.specs.Prelude.{◌≡◌, true, false, ◌^◌, ◌<◌, ◌≤◌, max, length};
 ghost use Rattle.records.specs.Records.{record_count};
 ghost use Rattle.records.specs.Blocks.{most_records};

@@ -1,5 +1,7 @@
 // Whether a step fires (Rule 5.2), by a plan, in the parts that a pass settles one by one: the new event's own
 // conditions once a record, the rest once a reading.
+#![tactic(auto)]
+
 ghost use Rattle.std.specs.Prelude.{◌≡◌, not, ◌+◌, ◌*◌, ◌%◌, ◌^◌, ◌<◌, ◌≤◌, pos, length};
 ghost use Rattle.numbers.specs.Numbers.{number, one_if};
 ghost use Rattle.numbers.specs.Bits.{bit};

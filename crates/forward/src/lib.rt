@@ -1,4 +1,6 @@
 // The forward pass: one pass over the records, with the live readings in lent working memory.
+#![tactic(auto)]
+
 ghost use Rattle.std.specs.Prelude.{◌≡◌, false, [], ◌∷◌, ◌+◌, ◌*◌, ◌≤◌, ◌<◌, max, length, replicate};
 ghost use Rattle.records.specs.Records.{record_bytes};
 ghost use Rattle.rule.specs.Rule.{start_of};

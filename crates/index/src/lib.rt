@@ -1,4 +1,6 @@
 // The index of a block: its maker, the check of an index, and whether a pattern cannot match by it.
+#![tactic(auto)]
+
 ghost use Rattle.std.specs.Prelude.{◌≡◌, ℕ, ◌+◌, ◌*◌, ◌<◌, ◌≤◌, ◌^◌, length, get_or, replicate};
 ghost use Rattle.records.specs.Records.{record_bytes, record_at, record_count};
 ghost use Rattle.records.specs.Blocks.{most_records, record_refusal};

@@ -1,4 +1,6 @@
 // The text of an answer and of the result beside it.
+#![tactic(auto)]
+
 ghost use Rattle.std.specs.Prelude.{◌≡◌, ◌+◌, ◌*◌, ◌^◌, ◌≤◌, ◌<◌, length, take};
 ghost use Rattle.lines.specs.Text.{after, binding_text, reading_text, line_text, report_text};
 ghost use Rattle.lines.specs.Text.{ok_text, refused_text, answer_text, number_room, last_room, text_room};

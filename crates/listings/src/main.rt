@@ -3,6 +3,8 @@
 // A case's lines: its title; code, place, used, readings, peak; the checksum of the slice's bytes; and of a slice of at
 // most 256 bytes each eight bytes as one number in hex, and then the left-over bytes in decimal. Every byte of the
 // slice is 255 before the call. tests/listings_model.py has the same cases, and says what must be written.
+#![tactic(auto)]
+
 mod cases;
 
 fn main() {

@@ -1,4 +1,6 @@
 // The live readings in lent working memory, and how they go on by one record.
+#![tactic(auto)]
+
 ghost use Rattle.std.specs.Prelude.{◌≡◌, false, [], ◌∷◌, ◌+◌, ◌-◌, ◌*◌, ◌^◌, ◌≤◌, ◌<◌, length};
 ghost use Rattle.records.specs.Records.{record_bytes};
 ghost use Rattle.records.specs.Blocks.{most_records};

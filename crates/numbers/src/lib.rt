@@ -1,4 +1,6 @@
 // Bytes read as numbers, the bits of numbers, and numbers and words put into lent memory.
+#![tactic(auto)]
+
 ghost use Rattle.std.specs.Prelude.{◌≡◌, ℕ, ◌+◌, ◌-◌, ◌*◌, ◌^◌, ◌<◌, ◌≤◌, length, get_or, replicate};
 ghost use Rattle.std.specs.Int.Bits.{bit_or};
 ghost use Rattle.numbers.specs.Numbers.{number, field, written, one_if};

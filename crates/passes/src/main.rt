@@ -4,6 +4,8 @@
 //   LIMIT WORK LENT PATTERN BLOCK    the limit, and how many bytes of working memory and of the result are lent, as
 //                                    numbers; then the bytes of pattern and block in hex digits
 // A row that begins with # is written as it is.
+#![tactic(auto)]
+
 mod cases;
 
 ghost use Rattle.std.specs.Prelude.{◌≡◌, length};

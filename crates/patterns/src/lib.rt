@@ -1,4 +1,6 @@
 // What the bytes of a pattern mean, the check of a pattern, and when a condition holds.
+#![tactic(auto)]
+
 ghost use Rattle.std.specs.Prelude.{◌≡◌, ◌+◌, ◌*◌, ◌<◌, ◌≤◌, eqb, pos, length};
 ghost use Rattle.numbers.specs.Numbers.{one_if, first};
 ghost use Rattle.records.specs.Records.{record_bytes, record_at, class_of};

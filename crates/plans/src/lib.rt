@@ -1,4 +1,6 @@
 // What a pass prepares once a call: the plan of a checked pattern, with its conditions on class settled.
+#![tactic(auto)]
+
 ghost use Rattle.std.specs.Prelude.{◌≡◌, ◌<◌, ◌≤◌};
 ghost use Rattle.patterns.specs.Patterns.{most_variables, most_conditions, last_operator};
 ghost use Rattle.patterns.specs.Checked.{InOrder, condition_at};

@@ -1,4 +1,6 @@
 // What a reading can still come to: the variables that fire for it, and the next record at which one does.
+#![tactic(auto)]
+
 ghost use Rattle.std.specs.Prelude.{◌≡◌, ℕ, ◌^◌, ◌<◌, ◌≤◌, length, get_or, replicate};
 ghost use Rattle.records.specs.Blocks.{most_records};
 ghost use Rattle.patterns.specs.Patterns.{most_variables};

@@ -1,4 +1,6 @@
 // What the bytes of a block mean, and the check of a block.
+#![tactic(auto)]
+
 ghost use Rattle.std.specs.Prelude.{◌≡◌, true, false, ℕ, ◌+◌, ◌-◌, ◌*◌, ◌<◌, ◌≤◌, length};
 ghost use Rattle.records.specs.Records.{record_bytes, record_at, record_count, class_of};
 ghost use Rattle.records.specs.Blocks.{misfit, gap_broken, broken, misplaced, record_refusal, block_answer};

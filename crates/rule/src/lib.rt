@@ -1,1 +1,3 @@
 // The reading rule and what the passes promise by it.
+#![tactic(auto)]
+

@@ -1,4 +1,6 @@
 // The search: the forward pass, but for blocks that cannot match by their index.
+#![tactic(auto)]
+
 ghost use Rattle.std.specs.Prelude.{◌≡◌, length, replicate};
 ghost use Rattle.index.specs.Promises.{SearchCall};
 

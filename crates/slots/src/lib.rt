@@ -1,4 +1,6 @@
 // Readings in lent memory.
+#![tactic(auto)]
+
 ghost use Rattle.std.specs.Prelude.{◌≡◌, [], ◌++◌, ◌+◌, ◌-◌, ◌*◌, ◌^◌, ◌/◌, ◌%◌, ◌≤◌, ◌<◌, length, take, replicate};
 ghost use Rattle.numbers.specs.Numbers.{number, bytes_of, written};
 ghost use Rattle.records.specs.Blocks.{most_records};

@@ -1,4 +1,6 @@
 // The C calls. Each hands the host's bytes straight through and packs the answer into one number.
+#![tactic(auto)]
+
 ghost use Rattle.std.specs.Prelude.{◌≡◌, true, min, length};
 ghost use Rattle.records.specs.Blocks.{block_answer, refused};
 ghost use Rattle.patterns.specs.Checked.{pattern_answer};

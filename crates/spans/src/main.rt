@@ -1,5 +1,7 @@
 // The match program: the forward pass over a pattern and a block from standard input (Rule 9.1), and its report as
 // lines of text (Rule 9.2).
+#![tactic(auto)]
+
 ghost use Rattle.std.specs.Prelude.{◌≡◌, ◌≤◌, length, take};
 ghost use Rattle.lines.specs.Text.{text_room};
 ghost use Rattle.spans.specs.Program.{input_room, work_bytes, result_bytes, Answered, Program};

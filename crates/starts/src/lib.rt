@@ -1,4 +1,6 @@
 // The start-by-start pass, and measure.
+#![tactic(auto)]
+
 ghost use Rattle.std.specs.Prelude.{◌≡◌, true, false, ◌+◌, ◌-◌, ◌*◌, ◌^◌, ◌/◌, ◌<◌, ◌≤◌, min, length, replicate};
 ghost use Rattle.numbers.specs.Bits.{within};
 ghost use Rattle.records.specs.Blocks.{InOrder as BlockInOrder, most_records};

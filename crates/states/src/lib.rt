@@ -1,4 +1,6 @@
 // The states that readings can be in, listed, each with the variables that leave it and the states that they lead to.
+#![tactic(auto)]
+
 ghost use Rattle.std.specs.Prelude.{◌≡◌, ℕ, ◌^◌, ◌<◌, ◌≤◌, length, get_or, replicate};
 ghost use Rattle.patterns.specs.Patterns.{most_variables};
 ghost use Rattle.plans.specs.Plan.{plan_room};

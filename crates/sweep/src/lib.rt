@@ -1,4 +1,6 @@
 // One sweep over the block: the first record at which a reading could take a binding too many.
+#![tactic(auto)]
+
 ghost use Rattle.std.specs.Prelude.{◌≡◌, true, ◌⊎◌, ℕ, suc, ◌+◌, ◌^◌, ◌<◌, ◌≤◌, ltb, length, get_or, replicate};
 ghost use Rattle.numbers.specs.Bits.{bit};
 ghost use Rattle.records.specs.Records.{record_count};

@@ -1,4 +1,6 @@
 // Rows of a table of text, for the test programs: their words, numbers and hex digits, and what is written.
+#![tactic(auto)]
+
 ghost use Rattle.std.specs.Prelude.{◌≡◌, ◌*◌, ◌<◌, ◌≤◌, min, length, get_or};
 ghost use Rattle.tables.specs.Rows.{large, FirstFrom, Behind, line_feed, space};
 

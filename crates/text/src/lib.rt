@@ -1,4 +1,6 @@
 // The text form of patterns: texts read into pattern bytes, and written from them.
+#![tactic(auto)]
+
 ghost use Rattle.std.specs.Prelude.{◌≡◌, ◌+◌, ◌*◌, ◌≤◌, min, length, take, replicate};
 ghost use mathlib.Core.List.{flat_map};
 ghost use Rattle.numbers.specs.Put.{Put};

@@ -1,4 +1,6 @@
 // The text of a checked pattern, put into memory that has room for the longest one.
+#![tactic(auto)]
+
 ghost use Rattle.std.specs.Prelude.{◌≡◌, ◌+◌, ◌^◌, ◌≤◌, ◌<◌, length};
 ghost use mathlib.Core.List.{map, flat_map};
 ghost use Rattle.numbers.specs.Numbers.{upto};

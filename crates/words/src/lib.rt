@@ -1,4 +1,6 @@
 // The words of a text: attributes, operators, numbers, and an attribute of a named variable.
+#![tactic(auto)]
+
 ghost use Rattle.std.specs.Prelude.{◌≡◌, false, ◌+◌, ◌*◌, ◌<◌, ◌≤◌, min, length};
 ghost use Rattle.form.specs.Form.{attribute_words, operator_words, letters};
 ghost use Rattle.words.specs.Words.{Same, RowOf, large, NaturalOf, ConstantOf, SideOf, BelowZero, PlaceRead};
