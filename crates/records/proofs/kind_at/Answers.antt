@@ -1,0 +1,11 @@
+-- `records::kind_at` meets its contract. Assumes nothing.
+use mathlib.Core.Path.{◌≡◌}
+use Prim.Native.Nat.{◌/◌, ◌%◌}
+use native.Mathlib.Omega.{arith}
+use Rattle.records.specs.Records.{record_at}
+use borrow.Author.Rules.{rules}
+use Rattle.records.proofs.kind_at.Goals as goal
+
+pub returns : goal.returns
+unfolding record_at
+returns c = let kind : c.byte.result / 64 ≡ c.byte.result / 64 % 4 = omega arith in cc

@@ -1,0 +1,17 @@
+-- `records::run_end` meets its contract. Assumes nothing.
+use mathlib.Core.Path.{◌≡◌, sym}
+use Prim.Native.Nat.{ℕ, ◌-◌, ◌≤◌, ◌<◌}
+use native.Mathlib.Omega.{arith}
+use borrow.Author.Rules.{rules}
+use Rattle.numbers.proofs.Cases.{not-not}
+use Rattle.records.specs.Blocks.{record_refusal}
+use Rattle.records.specs.Runs.{Ready}
+use Rattle.records.proofs.Runs.{ready, ready-event}
+use Rattle.records.proofs.Blocks.{run_more}
+use Rattle.records.proofs.run_end.Given as goal
+
+abbrev pub invariant-loop-at : goal.invariant-loop-at
+invariant-loop-at l = (l.i < l.at) × (l.at ≤ l.count) × ((j : ℕ) → l.i ≤ j → j < l.at → record_refusal l.block j ≡ 0) × Ready l.block l.at l.high l.least
+
+abbrev pub decreases-loop-at : goal.decreases-loop-at
+decreases-loop-at l = l.count - l.at
