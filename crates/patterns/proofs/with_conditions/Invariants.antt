@@ -1,0 +1,15 @@
+-- `patterns::with_conditions` meets its contract. Assumes nothing.
+use borrow.Author.Rules.{rules}
+use mathlib.Core.Path.{◌≡◌, ◌∙◌, ap}
+use Prim.Native.Nat.{ℕ, ◌-◌, ◌≤◌}
+use native.Mathlib.Omega.{arith}
+use Rattle.patterns.specs.Patterns.{most_conditions, condition_of, condition_word}
+use Rattle.patterns.specs.Checked.{pattern_up_to}
+use Rattle.patterns.proofs.Reading.{condition-read}
+use Rattle.patterns.proofs.with_conditions.Given as goal
+
+abbrev pub invariant-loop-i : goal.invariant-loop-i
+invariant-loop-i l = (l.i ≤ l.c) × (l.c ≤ most_conditions) × (l.q ≡ pattern_up_to l.pattern l.n l.i)
+
+abbrev pub decreases-loop-i : goal.decreases-loop-i
+decreases-loop-i l = l.c - l.i
