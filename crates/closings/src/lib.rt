@@ -8,7 +8,7 @@ ghost use Rattle.plans.specs.Plan.{plan_room};
 ghost use Rattle.closings.specs.Closings.{gap_mark_by, OpenTo, WindowIs};
 
 // Where the readings of a start close, and their mark.
-#[derive(Drop)]
+#[derive(Clone, Copy)]
 pub struct Window {
     pub until: usize,
     pub mark: u8,

@@ -28,7 +28,7 @@ pub const FINISHED: u8 = 3;
 // Of each letter its place among the names, counted from 1, or 0; the bytes of the variables and the 64 bits of the
 // conditions as far as a pattern has room for them; counts of names, set lines and when lines; how far the text is;
 // whether its last line was bad; the duration.
-#[derive(Drop)]
+#[derive(Clone, Copy)]
 pub struct Draft {
     pub places: [u8; LETTERS],
     pub variables: [u8; MOST_VARIABLES],
@@ -95,7 +95,7 @@ fn refuse(d: Draft) -> Draft
 }
 
 // A name and its group flag behind one space; size 0 where there is none.
-#[derive(Drop)]
+#[derive(Clone, Copy)]
 struct Piece {
     size: usize,
     name: u8,
@@ -284,7 +284,7 @@ fn join_bits(left: words::Sided, operator: u8, right: words::Sided) -> u64
 }
 
 // The 64 bits of a condition, if the words are one.
-#[derive(Drop)]
+#[derive(Clone, Copy)]
 struct Coded {
     ok: bool,
     bits: u64,

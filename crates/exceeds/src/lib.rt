@@ -37,7 +37,7 @@ pub fn has_room(s: Start, j: usize, slot: &[u8], end: usize) -> bool
 
 // The variables that a reading can still bind: those that it can bind again and again, those that it can bind once, and
 // how many there are of these.
-#[derive(Drop)]
+#[derive(Clone, Copy)]
 struct Open {
     again: u64,
     once: u64,
@@ -46,7 +46,7 @@ struct Open {
 
 // The bindings that a reading can come to: its own with the records at which a variable fires that can be bound again,
 // and the other records at which one fires that can be bound once.
-#[derive(Drop)]
+#[derive(Clone, Copy)]
 struct Tally {
     many: usize,
     single: usize,

@@ -26,7 +26,7 @@ pub const MOST_LIVE: u32 = 256;
 pub const WORK_PER_READING: usize = 2 * SLOT_BYTES;
 
 // How many bytes and readings were reported, and whether the result is too short for them.
-#[derive(Drop)]
+#[derive(Clone, Copy)]
 pub struct Tell {
     pub used: usize,
     pub readings: usize,

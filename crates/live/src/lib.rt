@@ -19,7 +19,7 @@ use plans::PLAN_ROOM;
 use slots::SLOT_BYTES;
 
 // How many readings were put out, and whether one of them has a binding too many.
-#[derive(Drop)]
+#[derive(Clone, Copy)]
 pub struct Out {
     pub total: usize,
     pub over: usize,
@@ -27,7 +27,7 @@ pub struct Out {
 
 // Where the live readings stand: the half of working memory, the place of the first, how many; and whether one of them
 // has a binding too many.
-#[derive(Drop)]
+#[derive(Clone, Copy)]
 pub struct Stand {
     pub half: usize,
     pub start: usize,

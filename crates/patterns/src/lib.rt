@@ -31,7 +31,7 @@ const LAST_OPERATOR: u8 = 5;
 
 // Rule 2.4: a checked pattern: of each variable its set number and group flag, of each condition its fields, beside the
 // counts n and c and the duration. Places that are not used are 0.
-#[derive(Drop)]
+#[derive(Clone, Copy)]
 pub struct Pattern {
     pub sets: [u8; MOST_VARIABLES],
     pub groups: [bool; MOST_VARIABLES],
@@ -48,7 +48,7 @@ pub struct Pattern {
 }
 
 // Rule 2.3: one condition.
-#[derive(Drop)]
+#[derive(Clone, Copy)]
 pub struct Condition {
     pub variable: u8,
     pub attribute: u8,
@@ -60,7 +60,7 @@ pub struct Condition {
 }
 
 // Rule 2.4: the refusal's number and place with a blank pattern, or code 0 with the checked pattern.
-#[derive(Drop)]
+#[derive(Clone, Copy)]
 pub struct Checked {
     pub code: u8,
     pub place: u32,

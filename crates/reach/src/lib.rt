@@ -12,7 +12,7 @@ ghost use Rattle.reach.specs.Readings.{leaving_by, agreeing_by, Cans, Usable, Re
 // What one start fixes: how many variables and conditions there are, and the duration; the record at which its readings
 // close, and their mark; a record before which none of them takes a binding too many, the number from which on counts
 // are not told, and where the count of branches stops.
-#[derive(Drop)]
+#[derive(Clone, Copy)]
 pub struct Start {
     pub n: usize,
     pub c: usize,
@@ -25,7 +25,7 @@ pub struct Start {
 }
 
 // A record that fires, and the variables that fire there.
-#[derive(Drop)]
+#[derive(Clone, Copy)]
 pub struct Fire {
     pub at: usize,
     pub variables: u64,

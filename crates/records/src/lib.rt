@@ -17,7 +17,7 @@ pub const EVENT: u8 = 0;
 pub const GAP: u8 = 1;
 
 // Rule 7.2: the answer of every call: the refusal's number and place, or, with code 0, what was written and counted.
-#[derive(Drop)]
+#[derive(Clone, Copy)]
 pub struct Answer {
     pub code: u8,
     pub place: u32,
@@ -27,7 +27,7 @@ pub struct Answer {
 }
 
 // Rule 1.2: one record, unpacked.
-#[derive(Drop)]
+#[derive(Clone, Copy)]
 pub struct Record {
     pub kind: u8,
     pub core: u8,

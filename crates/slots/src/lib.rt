@@ -31,7 +31,7 @@ pub const GAP_COMPLETE_MARK: u8 = 4;
 const RECORD_NUMBERS: usize = 4096;
 
 // A reading by value.
-#[derive(Drop)]
+#[derive(Clone, Copy)]
 pub struct Slot {
     pub bytes: [u8; SLOT_BYTES],
 }

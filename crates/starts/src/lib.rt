@@ -33,7 +33,7 @@ const STOP: usize = 18446744073709551615;
 
 // The numbers and readings so far, the least record at which a reading would take a binding too many, and how many
 // branches this start has taken, up to a limit.
-#[derive(Drop)]
+#[derive(Clone, Copy)]
 pub struct Counts {
     pub used: usize,
     pub readings: usize,

@@ -24,7 +24,7 @@ const ROW_PLACES: usize = slots::MOST_BINDINGS + 1;
 const MOST_PLACES: usize = MOST_STATES * ROW_PLACES;
 
 // The first record at which a reading could take a binding too many, and whether one does.
-#[derive(Drop)]
+#[derive(Clone, Copy)]
 pub struct Swept {
     pub floor: usize,
     pub exact: bool,

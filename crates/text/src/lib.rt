@@ -23,7 +23,7 @@ const MOST_BYTES: usize = patterns::HEADER_BYTES
     + patterns::CONDITION_BYTES * patterns::MOST_CONDITIONS;
 
 // What the lines of a text tell: the first bad or missing one, or all that they hold.
-#[derive(Drop)]
+#[derive(Clone, Copy)]
 pub struct Reading {
     pub bad: bool,
     pub line: usize,

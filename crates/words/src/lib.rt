@@ -21,21 +21,21 @@ const AMOUNT: u8 = 4;
 pub const LARGE: u64 = 1099511627776;
 
 // A number, if the word is one; LARGE stands for larger ones too.
-#[derive(Drop)]
+#[derive(Clone, Copy)]
 pub struct Digits {
     pub ok: bool,
     pub value: u64,
 }
 
 // A constant's 32 bits, if the word is a constant.
-#[derive(Drop)]
+#[derive(Clone, Copy)]
 pub struct Bits32 {
     pub ok: bool,
     pub bits: u32,
 }
 
 // The place of a name, counted from 1, and an attribute, if the word is name and attribute.
-#[derive(Drop)]
+#[derive(Clone, Copy)]
 pub struct Sided {
     pub ok: bool,
     pub place: u8,
