@@ -27,7 +27,7 @@ decide true = inl refl
 decide false = inr refl
 
 module _ {A : Type 0} where
-  pub all-mem : (f : A → Bool) {l : List A} {a : A} → Memᴰ a l → all f l ≡ true → f a ≡ true
+  pub all-mem : (f : A → Bool) {a : A} {l : List A} → Memᴰ a l → all f l ≡ true → f a ≡ true
   unfolding all
   all-mem f (Memᴰ.head e) h = ap f e ∙ (both h).0
   all-mem f (Memᴰ.tail {x} m) h = all-mem f m (both {a = f x} h).1
