@@ -37,6 +37,7 @@ given false h e = absurd (false≢true e)
 
 pub binds-mem : (r : Reading) {b : Binding} → Memᴰ b r → binds r b.variable ≡ true
 unfolding binds
+binds-mem [] {b = b} x' = elim x' [ ]
 binds-mem (x ∷ r) {b} (Memᴰ.head e) = ap (λ t. t || binds r b.variable) (eq-eqb x.variable b.variable (ap (λ (c : Binding). c.variable) (sym e)))
 binds-mem (x ∷ r) {b} (Memᴰ.tail m) = or_right (eqb x.variable b.variable) (binds-mem r m)
 
@@ -61,6 +62,7 @@ module _ (p : Pattern) (B : Block) where
   -- ## No record is bound twice
 
   pub below : (x : Binding) (r : Reading) → Partial p B (x ∷ r) → {b : Binding} → Memᴰ b r → b.at < x.at
+  below x [] h {b = b} x4 = elim x4 [ ]
   below x (y ∷ r) h (Memᴰ.head e) = omega (arith, h.1.later, ap (λ (c : Binding). c.at) e)
   below x (y ∷ r) h (Memᴰ.tail m) = omega (arith, h.1.later, below y r h.0 m)
 
@@ -68,6 +70,7 @@ module _ (p : Pattern) (B : Block) where
   shorter x y s h = record { one_or_more = λ q. nil≢cons (sym q); each = λ t b u e. h.each (x ∷ t) b u (ap (λ l. x ∷ l) e) }
 
   pub rises : (x : Binding) (s : Reading) → PartialReading p B (x ∷ s) → {b : Binding} → Memᴰ b s → b.at < x.at
+  rises x [] h {b = b} x4 = elim x4 [ ]
   rises x (y ∷ s) h (Memᴰ.head e) =
       omega (arith, (h.each [] x (y ∷ s) refl).rising (λ q. nil≢cons (sym q)), ap (λ (c : Binding). c.at) e)
   rises x (y ∷ s) h (Memᴰ.tail m) =
@@ -135,6 +138,7 @@ module _ (p : Pattern) (B : Block) where
       (r : Reading) → Partial p B r → (c : Condition) → Memᴰ c (conditions p)
       → c.form ≡ 0 → (a : Binding) → Memᴰ a r → a.variable ≡ c.variable
       → holds c (record_in B a.at) (record_in B a.at) ≡ true
+  constant-holds [] h c m f a _ e = elim h [ ]
   constant-holds (x ∷ r) h c m f a (Memᴰ.tail i) e = constant-holds r (earlier x r h i) c m f a i e
   constant-holds (x ∷ r) h c m f a (Memᴰ.head d) e =
       subst (λ (b : Binding). holds c (record_in B b.at) (record_in B b.at) ≡ true) (sym d)
@@ -145,6 +149,7 @@ module _ (p : Pattern) (B : Block) where
       → (a b : Binding) → Memᴰ a r → Memᴰ b r → a.variable ≡ c.variable
       → b.variable ≡ c.variable2 → (c.variable ≡ c.variable2 → a ≡ b)
       → holds c (record_in B a.at) (record_in B b.at) ≡ true
+  pair-holds [] h c m f a b _ _ d e s = elim h [ ]
   pair-holds (x ∷ r) h c m f a b (Memᴰ.tail i) (Memᴰ.tail j) d e s = pair-holds r (earlier x r h i) c m f a b i j d e s
   pair-holds (x ∷ r) h c m f a b (Memᴰ.head i) (Memᴰ.head j) d e s =
       let dx = sym d ∙ ap (λ (b : Binding). b.variable) i in
@@ -198,6 +203,7 @@ module _ (p : Pattern) (B : Block) where
 
   pub variable-in : (r : Reading) → Partial p B r → {b : Binding} → Memᴰ b r → b.variable < p.n
   unfolding fires leaves
+  variable-in [] h {b = b} _ = elim h [ ]
   variable-in (x ∷ r) h (Memᴰ.tail m) = variable-in r (earlier x r h m) m
   variable-in (x ∷ r) h (Memᴰ.head e) = omega (arith, ap (λ (b : Binding). b.variable) e, ltb-true x.variable p.n (both {a = ltb x.variable p.n} (both {a = leaves p (binds r) x.variable} (step-fires x r h)).0).0)
 
@@ -210,6 +216,7 @@ module _ (p : Pattern) (B : Block) where
       (r : Reading) → Partial p B r → {b : Binding} → Memᴰ b r
       → (u : ℕ) → u < p.n → set_of p u < set_of p b.variable
       → binds r u ≡ true
+  state-of [] h {b = b} _ u l g = elim h [ ]
   state-of (x ∷ r) h (Memᴰ.tail m) u l g = binds-more x r u (state-of r (earlier x r h m) m u l g)
   state-of (x ∷ r) h {b} (Memᴰ.head e) u l g = binds-more x r u (go (λ c i. state-of r (earlier x r h i) i u l) (opens-or-loops x r h))
     where
@@ -228,6 +235,7 @@ module _ (p : Pattern) (B : Block) where
       (r : Reading) → Partial p B r → (a b : Binding) → Memᴰ a r
       → Memᴰ b r → set_of p a.variable < set_of p b.variable
       → a.at < b.at
+  set-order [] h a b _ _ g = elim h [ ]
   set-order (x ∷ r) h a b (Memᴰ.tail i) (Memᴰ.tail j) g = set-order r (earlier x r h i) a b i j g
   set-order (x ∷ r) h a b (Memᴰ.tail i) (Memᴰ.head e) g = omega (arith, below x r h i, ap (λ (c : Binding). c.at) e)
   set-order (x ∷ r) h a b (Memᴰ.head d) (Memᴰ.head e) g = let q = ap (λ (c : Binding). set_of p c.variable) (d ∙ sym e) in absurd (omega arith)
@@ -244,6 +252,7 @@ module _ (p : Pattern) (B : Block) where
 
   pub bound-span :
       (r : Reading) → Partial p B r → {b : Binding} → Memᴰ b r → (start_of r ≤ b.at) × InWindow p B r b.at
+  bound-span [] h {b = b} _ = elim h [ ]
   bound-span (x ∷ []) h (Memᴰ.tail m) = absurd (Memᴰ.not-nil m)
   bound-span (x ∷ []) h (Memᴰ.head e) = let q = ap (λ (c : Binding). c.at) e in (omega arith, subst (λ n. time_at B n ≤ time_at B x.at + p.duration) (sym q) (omega arith))
   bound-span (x ∷ y ∷ r) h (Memᴰ.tail m) = bound-span (y ∷ r) h.0 m

@@ -34,7 +34,7 @@ module _ {A : Type 0} where
       go true e h ih = (x, Memᴰ.head refl, e)
       go false e h ih = let q = ih h in (q.0, Memᴰ.tail q.1, q.2)
 
-  yes-any : (f : A → Bool) {l : List A} {a : A} → Memᴰ a l → f a ≡ true → any f l ≡ true
+  yes-any : (f : A → Bool) {a : A} {l : List A} → Memᴰ a l → f a ≡ true → any f l ≡ true
   unfolding any
   yes-any f (Memᴰ.head {xs} e) h = ap (λ b. b || any f xs) (ap f (sym e) ∙ h)
   yes-any f (Memᴰ.tail {x} m) h = go (f x) (yes-any f m h)

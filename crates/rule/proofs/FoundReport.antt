@@ -52,9 +52,9 @@ lines-collect f (a ∷ l) = lines-append (f a) (collect f l) ∙ ap (λ t. lines
 module _ (p : Pattern) (B : Block) where
   -- ## What grows from a reading at one record
 
-  in_window : (r : Reading) (j : ℕ) → is_past p B (start_of r) j ≡ false → in_window p B r j ≡ true
+  in-window : (r : Reading) (j : ℕ) → is_past p B (start_of r) j ≡ false → in_window p B r j ≡ true
   unfolding is_past in_window
-  in_window r j e = le-leb (time_at B j) (time_at B (start_of r) + p.duration) (ltb-false (time_at B (start_of r) + p.duration) (time_at B j) e)
+  in-window r j e = le-leb (time_at B j) (time_at B (start_of r) + p.duration) (ltb-false (time_at B (start_of r) + p.duration) (time_at B j) e)
 
   out-window : (r : Reading) (j : ℕ) → is_past p B (start_of r) j ≡ true → in_window p B r j ≡ false
   unfolding is_past in_window
@@ -186,7 +186,7 @@ module _ (p : Pattern) (B : Block) where
         let m : j < until p B i = omega arith in
         let w = before-until p B i j l m in
         by-test (any_fires p B (b ∷ r) j) (lines-taken n j m ih b r s h) (lines-passed n j m ih b r s h)
-        ∙ sym (grow-on n j (b ∷ r) w.0 (in_window (b ∷ r) j (subst (λ k. is_past p B k j ≡ false) (sym s) w.1)))
+        ∙ sym (grow-on n j (b ∷ r) w.0 (in-window (b ∷ r) j (subst (λ k. is_past p B k j ≡ false) (sym s) w.1)))
 
     lines_start :
         (n : ℕ) → i + n ≡ length B → NoneOver (start_found p B i)

@@ -179,6 +179,7 @@ module _ (p : Pattern) (B : Block) where
 
 pub least-le : (none : ℕ) (l : List Found) (j : ℕ) → Memᴰ (over j) l → least_over none l ≤ j
 unfolding least_over
+least-le none [] j x' = elim x' [ ]
 least-le none (closed mark r ∷ l) j (Memᴰ.head e) = let z : ◌≡◌ {A = ℕ} 0 1 = cc in absurd (omega arith)
 least-le none (closed mark r ∷ l) j (Memᴰ.tail m) = least-le none l j m
 least-le none (over k ∷ l) j (Memᴰ.head e) = let z : j ≡ k = cc in omega arith
@@ -199,6 +200,7 @@ module _ (p : Pattern) (B : Block) (mono : TimesNeverFall B) where
   long-in j t = subst (λ k. k < length B) t.ends (go t.reading (partial-of p B mono t.reading t.reads))
     where
       go : (r : Reading) → Partial p B r → last_of r < length B
+      go [] h = elim h [ ]
       go (b ∷ []) h = event-in p B b.at h.0
       go (a ∷ b ∷ r) h = event-in p B a.at h.2.event
 

@@ -109,6 +109,7 @@ module _ (p : Pattern) (B C : Block) (k : ℕ) (same : SameFront B C k) where
     bound-front = go r h l
       where
         go : (r : Reading) → Partial p B r → last_of r < k → (b : Binding) → Memᴰ b r → b.at < k
+        go [] h l b _ = elim h [ ]
         go (x ∷ r) h l b (Memᴰ.head e) = omega (arith, l, ap (λ (c : Binding). c.at) e)
         go (x ∷ r) h l b (Memᴰ.tail m) = omega (arith, l, below p B x r h m)
 

@@ -35,6 +35,7 @@ module _ (p : Pattern) (B : Block) where
       go ih (no n) = ih (omega arith)
 
   pub bound-in : (r : Reading) → Partial p B r → (b : Binding) → Memᴰ b r → b.at < length B
+  bound-in [] h b _ = elim h [ ]
   bound-in (x ∷ []) h b (Memᴰ.head e) = omega (arith, event-in p B x.at h.0, ap (λ (c : Binding). c.at) e)
   bound-in (x ∷ y ∷ r) h b (Memᴰ.head e) = omega (arith, event-in p B x.at h.2.event, ap (λ (c : Binding). c.at) e)
   bound-in (x ∷ r) h b (Memᴰ.tail m) = bound-in r (earlier p B x r h m) b m
@@ -111,6 +112,7 @@ module _ (p : Pattern) (B : Block) (mono : TimesNeverFall B) (checked : InOrder 
       (r : Reading) → Partial p B r → (a b : Binding) → Memᴰ a r
       → Memᴰ b r → set_of p a.variable < set_of p b.variable
       → time_at B a.at < time_at B b.at
+  set-order-time [] h a b _ j g = elim h [ ]
   set-order-time (x ∷ r) h a b (Memᴰ.tail i) (Memᴰ.tail j) g = set-order-time r (earlier p B x r h i) a b i j g
   set-order-time (x ∷ r) h a b (Memᴰ.head d) j g = let q = set-order p B (x ∷ r) h a b (Memᴰ.head d) j g in absurd (after j q)
     where

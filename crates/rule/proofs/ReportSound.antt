@@ -127,6 +127,7 @@ module _ (p : Pattern) (B : Block) where
   -- ## From the first record to the last
 
   last-bound : (r : Reading) → Partial p B r → (b : Binding) → Memᴰ b r → b.at ≤ last_of r
+  last-bound [] h b _ = elim h [ ]
   last-bound (x ∷ r) h b (Memᴰ.head e) = omega (arith, ap (λ (c : Binding). c.at) e)
   last-bound (x ∷ r) h b (Memᴰ.tail m) = omega (arith, below p B x r h m)
 

@@ -1,3 +1,2 @@
 // The reading rule and what the passes promise by it.
 #![tactic(auto)]
-
