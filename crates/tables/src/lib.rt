@@ -1,25 +1,57 @@
 // Rows of a table of text, for the test programs: their words, numbers and hex digits, and what is written.
 #![tactic(auto)]
 
-ghost use Rattle.std.specs.Prelude.{◌≡◌, ◌*◌, ◌<◌, ◌≤◌, min, length, get_or};
+ghost use Rattle.std.specs.Prelude.{◌≡◌, ◌*◌, ◌<◌, ◌≤◌, IfOk, min, length, take, get_or};
+ghost use Rattle.std.specs.Io.KnownBytes.{Consumes, IsAtEnd};
 ghost use Rattle.tables.specs.Rows.{large, FirstFrom, Behind, line_feed, space};
 
-use libc::STDOUT_FILENO;
+use std::io;
+use std::io::Read;
 
 // More than any number of a table.
 const LARGE: usize = 100000;
 
-pub fn put(text: &[u8]) {
-    io::write_all(STDOUT_FILENO, text);
+// Room for the bytes that a row's hex digits make.
+pub fn buffer() -> [u8; 4096]
+    ensures { 4096 ≡ length result }
+{
+    [0; 4096]
 }
 
-pub fn put_number(n: u64) {
-    io::print_decimal(STDOUT_FILENO, n);
+pub fn large_buffer() -> [u8; 65536]
+    ensures { 65536 ≡ length result }
+{
+    [0; 65536]
+}
+
+// Reads until the room is full or the input ends, and answers how many bytes there are.
+pub fn read_full<R: Read>(input: &mut R, room: &mut [u8]) -> io::Result<usize>
+    ensures within { IfOk result (λ n. n ≤ length room.new) }
+    ensures bytes { IfOk result (λ n. Consumes (R.remaining input.old) (R.remaining input.new) (take n room.new)) }
+    ensures end { IfOk result (λ n. n < length room.new → IsAtEnd (R.remaining input.new)) }
+{
+    let mut done = 0;
+    while done < room.len() {
+        let n = input.read(&mut room[done..])?;
+        if n == 0 {
+            return Ok(done);
+        }
+        done += n;
+    }
+    Ok(done)
+}
+
+pub fn put(out: &impl Print, text: &[u8]) -> io::Result<()> {
+    out.write_all(text)
+}
+
+pub fn put_number(out: &impl Print, n: u64) -> io::Result<()> {
+    out.print(n)
 }
 
 // A number as 16 hex digits.
-pub fn put_word(n: u64) {
-    io::print_hex(STDOUT_FILENO, n, 16);
+pub fn put_word(out: &impl Print, n: u64) -> io::Result<()> {
+    print!(out; "{n:016x}")
 }
 
 pub fn least(a: usize, b: usize) -> usize
