@@ -5,18 +5,19 @@ ghost use Rattle.records.specs.Blocks.{most_records};
 ghost use Rattle.tables.specs.Rows.{large};
 
 use records::{Answer, RECORD_BYTES};
+use std::io;
 
 // Four records more than a block may have.
 const ROOM: usize = RECORD_BYTES * (records::MOST_RECORDS + 4);
 
-pub(crate) fn block_row(row: &[u8]) {
-    let mut block = io::buffer();
+pub(crate) fn block_row(out: &impl Print, row: &[u8]) -> io::Result<()> {
+    let mut block = tables::buffer();
     let at = tables::next_word(row, 0);
     let n = tables::hex_bytes(&row[at..], &mut block);
-    put_answer(records::check_block(&block[0..n]));
+    put_answer(out, records::check_block(&block[0..n]))
 }
 
-pub(crate) fn events_row(row: &[u8]) {
+pub(crate) fn events_row(out: &impl Print, row: &[u8]) -> io::Result<()> {
     let n_at = tables::next_word(row, 0);
     let extra_at = tables::next_word(row, n_at);
     let place_at = tables::next_word(row, extra_at);
@@ -30,7 +31,7 @@ pub(crate) fn events_row(row: &[u8]) {
         tables::number(row, byte_at),
     );
     let length = tables::least(RECORD_BYTES * n + tables::number(row, extra_at), ROOM);
-    put_answer(records::check_block(&block[0..length]));
+    put_answer(out, records::check_block(&block[0..length]))
 }
 
 fn room() -> [u8; ROOM]
@@ -58,10 +59,10 @@ fn set(block: &mut [u8], place: usize, value: usize) {
     }
 }
 
-fn put_answer(answer: Answer) {
-    tables::put_number(answer.code as u64);
-    tables::put(b" ");
-    tables::put_number(answer.place as u64);
-    tables::put(b" ");
-    tables::put_number(answer.used as u64);
+fn put_answer(out: &impl Print, answer: Answer) -> io::Result<()> {
+    tables::put_number(out, answer.code as u64)?;
+    tables::put(out, b" ")?;
+    tables::put_number(out, answer.place as u64)?;
+    tables::put(out, b" ")?;
+    tables::put_number(out, answer.used as u64)
 }

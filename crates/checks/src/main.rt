@@ -11,29 +11,30 @@
 mod block_rows;
 mod pattern_rows;
 
-use libc::STDIN_FILENO;
+use std::io;
 
-fn main() {
-    let mut table = io::large_buffer();
-    let n = io::read_full(STDIN_FILENO, &mut table);
-    rows(&table[..n]);
+fn main(rt: HostRuntime) -> io::Result<()> {
+    let mut table = tables::large_buffer();
+    let n = tables::read_full(&mut rt.stdin(), &mut table)?;
+    rows(&rt, &table[..n])
 }
 
-fn rows(table: &[u8]) {
+fn rows(out: &impl Print, table: &[u8]) -> io::Result<()> {
     let mut at = 0;
     while at < table.len() {
         let end = tables::line_end(table, at);
-        row(&table[at..end]);
+        row(out, &table[at..end])?;
         at = end + 1;
     }
+    Ok(())
 }
 
-fn row(row: &[u8]) {
+fn row(out: &impl Print, row: &[u8]) -> io::Result<()> {
     match tables::first(row) {
-        b'b' => block_rows::block_row(row),
-        b'e' => block_rows::events_row(row),
-        b'p' => pattern_rows::pattern_row(row),
-        _ => tables::put(row),
+        b'b' => block_rows::block_row(out, row)?,
+        b'e' => block_rows::events_row(out, row)?,
+        b'p' => pattern_rows::pattern_row(out, row)?,
+        _ => tables::put(out, row)?,
     }
-    tables::put(b"\n");
+    tables::put(out, b"\n")
 }

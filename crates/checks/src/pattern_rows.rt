@@ -6,38 +6,38 @@ ghost use Rattle.std.specs.Prelude.{◌<◌};
 ghost use Rattle.patterns.specs.Patterns.{most_variables, most_conditions};
 
 use patterns::{Checked, Condition, MOST_CONDITIONS, MOST_VARIABLES, Pattern};
+use std::io;
 
-pub(crate) fn pattern_row(row: &[u8]) {
-    let mut pattern = io::buffer();
+pub(crate) fn pattern_row(out: &impl Print, row: &[u8]) -> io::Result<()> {
+    let mut pattern = tables::buffer();
     let at = tables::next_word(row, 0);
     let n = tables::hex_bytes(&row[at..], &mut pattern);
-    put_checked(patterns::check_pattern(&pattern[0..n]));
+    put_checked(out, patterns::check_pattern(&pattern[0..n]))
 }
 
-fn put_checked(checked: Checked) {
+fn put_checked(out: &impl Print, checked: Checked) -> io::Result<()> {
     let p = checked.pattern;
-    tables::put_number(checked.code as u64);
-    tables::put(b" ");
-    tables::put_number(checked.place as u64);
-    tables::put(b" ");
-    tables::put_number(p.n as u64);
-    tables::put(b" ");
-    tables::put_number(p.c as u64);
-    tables::put(b" ");
-    tables::put_number(p.duration);
-    put_rest(p);
-    put_variables(p);
-    put_conditions(p);
+    tables::put_number(out, checked.code as u64)?;
+    tables::put(out, b" ")?;
+    tables::put_number(out, checked.place as u64)?;
+    tables::put(out, b" ")?;
+    tables::put_number(out, p.n as u64)?;
+    tables::put(out, b" ")?;
+    tables::put_number(out, p.c as u64)?;
+    tables::put(out, b" ")?;
+    tables::put_number(out, p.duration)?;
+    put_rest(out, p)?;
+    put_variables(out, p)?;
+    put_conditions(out, p)
 }
 
-fn put_rest(p: Pattern) {
+fn put_rest(out: &impl Print, p: Pattern) -> io::Result<()> {
     if no_more_variables(p) {
         if no_more_conditions(p) {
-            tables::put(b" rest 0");
-            return;
+            return tables::put(out, b" rest 0");
         }
     }
-    tables::put(b" rest not 0");
+    tables::put(out, b" rest not 0")
 }
 
 // Whether all places of variables from n on are 0.
@@ -112,52 +112,55 @@ fn condition(p: Pattern, i: usize) -> Condition
     }
 }
 
-fn put_variables(p: Pattern) {
+fn put_variables(out: &impl Print, p: Pattern) -> io::Result<()> {
     let n = tables::least(p.n, MOST_VARIABLES);
     let mut v = 0;
     while v < n {
-        put_variable(p, v);
+        put_variable(out, p, v)?;
         v += 1;
     }
+    Ok(())
 }
 
-fn put_variable(p: Pattern, v: usize)
+fn put_variable(out: &impl Print, p: Pattern, v: usize) -> io::Result<()>
     requires { v < most_variables }
 {
     if v == 0 {
-        tables::put(b":");
+        tables::put(out, b":")?;
     }
-    tables::put(b" ");
-    tables::put_number(p.sets[v] as u64);
+    tables::put(out, b" ")?;
+    tables::put_number(out, p.sets[v] as u64)?;
     if p.groups[v] {
-        tables::put(b"+");
+        tables::put(out, b"+")?;
     }
+    Ok(())
 }
 
-fn put_conditions(p: Pattern) {
+fn put_conditions(out: &impl Print, p: Pattern) -> io::Result<()> {
     let c = tables::least(p.c, MOST_CONDITIONS);
     let mut i = 0;
     while i < c {
-        put_condition(condition(p, i));
+        put_condition(out, condition(p, i))?;
         i += 1;
     }
+    Ok(())
 }
 
-fn put_condition(k: Condition) {
-    tables::put(b"; ");
-    put_side(k.variable, k.attribute);
-    tables::put(b" ");
-    tables::put_number(k.operator as u64);
-    tables::put(b" ");
-    tables::put_number(k.form as u64);
-    tables::put(b" ");
-    put_side(k.variable2, k.attribute2);
-    tables::put(b" ");
-    tables::put_number(k.constant as u64);
+fn put_condition(out: &impl Print, k: Condition) -> io::Result<()> {
+    tables::put(out, b"; ")?;
+    put_side(out, k.variable, k.attribute)?;
+    tables::put(out, b" ")?;
+    tables::put_number(out, k.operator as u64)?;
+    tables::put(out, b" ")?;
+    tables::put_number(out, k.form as u64)?;
+    tables::put(out, b" ")?;
+    put_side(out, k.variable2, k.attribute2)?;
+    tables::put(out, b" ")?;
+    tables::put_number(out, k.constant as u64)
 }
 
-fn put_side(variable: u8, attribute: u8) {
-    tables::put_number(variable as u64);
-    tables::put(b".");
-    tables::put_number(attribute as u64);
+fn put_side(out: &impl Print, variable: u8, attribute: u8) -> io::Result<()> {
+    tables::put_number(out, variable as u64)?;
+    tables::put(out, b".")?;
+    tables::put_number(out, attribute as u64)
 }
