@@ -10,15 +10,15 @@ mod cases;
 
 ghost use Rattle.std.specs.Prelude.{◌≡◌, length};
 
-use libc::STDIN_FILENO;
+use std::io;
 
 // The room for a table.
 const TABLE_ROOM: usize = 131072;
 
-fn main() {
+fn main(rt: HostRuntime) -> io::Result<()> {
     let mut table = table_room();
-    let n = io::read_full(STDIN_FILENO, &mut table);
-    rows(&table[..n]);
+    let n = tables::read_full(&mut rt.stdin(), &mut table)?;
+    rows(&rt, &table[..n])
 }
 
 fn table_room() -> [u8; TABLE_ROOM]
@@ -27,23 +27,24 @@ fn table_room() -> [u8; TABLE_ROOM]
     [0; TABLE_ROOM]
 }
 
-fn rows(table: &[u8]) {
+fn rows(out: &impl Print, table: &[u8]) -> io::Result<()> {
     let mut at = 0;
     while at < table.len() {
         let end = tables::line_end(table, at);
-        row(&table[at..end]);
+        row(out, &table[at..end])?;
         at = end + 1;
     }
+    Ok(())
 }
 
-fn row(row: &[u8]) {
+fn row(out: &impl Print, row: &[u8]) -> io::Result<()> {
     match tables::first(row) {
-        b'#' => put_line(row),
-        _ => cases::case_row(row),
+        b'#' => put_line(out, row),
+        _ => cases::case_row(out, row),
     }
 }
 
-fn put_line(row: &[u8]) {
-    tables::put(row);
-    tables::put(b"\n");
+fn put_line(out: &impl Print, row: &[u8]) -> io::Result<()> {
+    tables::put(out, row)?;
+    tables::put(out, b"\n")
 }

@@ -6,8 +6,8 @@ ghost use Rattle.std.specs.Prelude.{◌≡◌, ◌≤◌, length, take};
 ghost use Rattle.lines.specs.Text.{text_room};
 ghost use Rattle.spans.specs.Program.{input_room, work_bytes, result_bytes, Answered, Program};
 
-use libc::{STDIN_FILENO, STDOUT_FILENO};
 use records::Answer;
+use std::io;
 
 const LENGTH_BYTES: usize = 2;
 
@@ -29,14 +29,14 @@ const RESULT_ROOM: usize = slots::MOST_RESULT_BYTES;
 
 const TEXT_ROOM: usize = lines::NUMBER_ROOM * (RESULT_ROOM / 2) + lines::LAST_ROOM;
 
-fn main() {
+fn main(rt: HostRuntime) -> io::Result<()> {
     let mut input = input_room();
-    let n = io::read_full(STDIN_FILENO, &mut input);
+    let n = tables::read_full(&mut rt.stdin(), &mut input)?;
     let mut work = work_room();
     let mut result = result_room();
     let mut text = text_room();
     let end = put_text(&input[..n], &mut work, &mut result, &mut text);
-    io::write_all(STDOUT_FILENO, &text[0..end]);
+    rt.write_all(&text[0..end])
 }
 
 fn input_room() -> [u8; INPUT_ROOM]
