@@ -1,15 +1,10 @@
 -- `drafts::with_set` meets its contract. Assumes nothing.
 use borrow.Author.Rules.{rules}
 use Rattle.form.specs.Items.{in_sets}
-use Rattle.drafts.proofs.with_set.Statement.{statement}
-use Rattle.drafts.proofs.with_set.Tie as tie
+use Rattle.drafts.proofs.with_set.Goals as goal
 
-next-requires : tie.Need-next-requires
-next-requires c κs = search rules
-
-returns : tie.Need-returns
-returns c =
-    let d = c.before.args.d in
+pub returns : goal.returns
+returns c = let d = c.args.d in
     (λ i.
     record {
       places = d.places;
@@ -22,6 +17,3 @@ returns c =
       bad = d.bad;
       duration = d.duration;
     })
-
-pub with-set-spec : {M : Type 1} → statement M
-with-set-spec = tie.close (tie.spec next-requires returns)
