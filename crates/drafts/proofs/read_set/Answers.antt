@@ -91,7 +91,7 @@ overflow_add-at c = let line = c.args.line.now in
     let f = c.first_member-piece in
     let p = left-part line k.at f.result f.ensures in
     let s = piece-size line k.at f.result c.if-piece-eq0.false (omega arith) p in
-    omega (arith, c.well-formed.0)
+    omega (arith, c.well_formed.0)
 
 pub loop-at-smaller : goal.loop-at-smaller
 loop-at-smaller c = let line = c.args.line.now in
