@@ -1,6 +1,6 @@
 -- What the calls of the two passes and of measure promise, from the caller's bytes to the answer and every byte of lent
 -- memory.
-use Rattle.std.specs.Prelude.{◌≡◌, true, false, List, ◌++◌, ℕ, ◌+◌, ◌-◌, ◌*◌, ◌/◌, ◌≤◌, eqb, length, replicate}
+use Rattle.std.specs.Prelude.{◌≡◌, true, false, List, ◌++◌, ℕ, ◌-◌, ◌*◌, ◌/◌, ◌≤◌, eqb, length, replicate}
 use Rattle.numbers.specs.Numbers.{bytes_of}
 use Rattle.records.specs.declared.Answer.{Answer}
 use Rattle.records.specs.Records.{records_of}

@@ -1,0 +1,23 @@
+-- `reach::firing_of` meets its contract. The loop's invariant: what is found so far and what the variables left will
+-- give make the whole. Assumes nothing.
+use native.Mathlib.Nat.{zero-mul}
+use native.Mathlib.Omega.{arith}
+use mathlib.Core.Path.{◌≡◌, sym, ap, ◌∙◌}
+use mathlib.Core.Bool.{Bool, ◌&&◌, and-true, and-false}
+use Prim.Native.Nat.{ℕ, ◌+◌, ◌*◌, ◌^◌, ◌<◌}
+use borrow.Author.Tests.{not-true, not-false}
+use Rattle.numbers.specs.Numbers.{one_if}
+use Rattle.patterns.specs.Patterns.{most_variables}
+use Rattle.slots.specs.Slots.{held_in}
+use Rattle.firing.specs.Firing.{later_by}
+use Rattle.reach.specs.Readings.{agreeing_by}
+use Rattle.reach.proofs.MaskInTurn.{low_bits, rest-less}
+use Rattle.reach.proofs.Masks.{agreeing-none, agreeing-bound, agreeing-lowest}
+use borrow.Author.Rules.{rules}
+use Rattle.reach.proofs.firing_of.Given as goal
+
+abbrev pub invariant-loop-rest : goal.invariant-loop-rest
+invariant-loop-rest l = (l.rest < 2 ^ most_variables) × (l.firing + agreeing_by l.plan l.block l.i l.rest (held_in l.slot) ≡ agreeing_by l.plan l.block l.i l.asked (held_in l.slot))
+
+abbrev pub decreases-loop-rest : goal.decreases-loop-rest
+decreases-loop-rest l = l.rest

@@ -1,0 +1,13 @@
+-- `slots::load` meets its contract: the bytes up to i are those of the part. Assumes nothing.
+use mathlib.Core.Path.{◌≡◌}
+use mathlib.Core.List.{◌++◌}
+use Prim.Native.Nat.{◌-◌, ◌≤◌}
+use lib.ListN.{length, take, drop}
+use Rattle.slots.specs.Slots.{slot_bytes}
+use Rattle.slots.proofs.load.Given as goal
+
+abbrev pub invariant-loop-i : goal.invariant-loop-i
+invariant-loop-i l = (l.i ≤ slot_bytes) × (length l.slot ≡ slot_bytes) × (l.slot ≡ take l.i l.part ++ drop l.i l.initial.slot)
+
+abbrev pub decreases-loop-i : goal.decreases-loop-i
+decreases-loop-i l = slot_bytes - l.i

@@ -1,0 +1,16 @@
+-- `text::put_variables` meets its contract. The loop's invariant: the first v bytes have been put. Assumes nothing.
+use mathlib.Core.Path.{◌≡◌}
+use Prim.Native.Nat.{◌+◌, ◌-◌, ◌≤◌}
+use native.Mathlib.Omega.{arith}
+use lib.ListN.{length, take, length-set}
+use borrow.Author.Rules.{rules}
+use Rattle.numbers.specs.Put.{Put}
+use Rattle.numbers.proofs.Put.{put-none, put-word-turn}
+use Rattle.form.specs.Packed.{most_bytes}
+use Rattle.text.proofs.put_variables.Given as goal
+
+abbrev pub invariant-loop-v : goal.invariant-loop-v
+invariant-loop-v l = (l.v ≤ l.n) × (most_bytes ≤ length l.bytes) × Put l.initial.bytes l.bytes 8 (take l.v l.d.variables) (8 + l.v)
+
+abbrev pub decreases-loop-v : goal.decreases-loop-v
+decreases-loop-v l = l.n - l.v

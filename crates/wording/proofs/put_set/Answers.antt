@@ -1,0 +1,13 @@
+-- `wording::put_set` meets its contract. Assumes nothing.
+use native.Mathlib.Omega.{arith}
+use Rattle.wording.specs.Parts.{set_text}
+use Rattle.wording.proofs.Pieces.{put_as, later-set}
+use borrow.Author.Rules.{rules}
+use Rattle.wording.proofs.put_set.Goals as goal
+
+pub returns-then-v-eq0 : goal.returns-then-v-eq0
+unfolding set_text
+returns-then-v-eq0 c = (put_as set_text _ 0 c.if-v-eq0.true c.put_word.ensures, omega (arith, c.put_word.ensures.ends))
+
+pub returns : goal.returns
+returns c = (rw (later-set _ c.if-v-eq0.false) c.put_word-2.ensures, omega (arith, c.put_word-2.ensures.ends))
