@@ -1,4 +1,5 @@
-// Rows of a table of text, for the test programs: their words, numbers and hex digits, and what is written.
+// Rows of a table of text, for the test programs: their words, numbers and hex digits, and what is written. How every
+// program reads standard input.
 #![tactic(auto)]
 
 ghost use Rattle.std.specs.Prelude.{◌≡◌, ◌*◌, ◌<◌, ◌≤◌, IfOk, min, length, take, get_or};
