@@ -33,15 +33,15 @@ extend_one-out-requires c = let l = c in
     let a = s.args in
     let added = l.loop-k.invariant.2 in
     let size = added.size in
-    let apart = s.requires.limit_in_bounds.2 in
+    let apart = s.requires.room.2 in
     let at : ℕ = a.src + slot_bytes * l.loop-k.k in (
       omega arith,
       omega arith,
       apart-part apart at (at + slot_bytes) (omega arith) (omega arith),
       omega arith,
-      s.requires.count_le_most_live.1,
-      s.requires.count_le_most_live.2,
-      fit-kept apart added.outside at (omega arith) (omega arith) (s.requires.count_le_most_live.4.fit l.loop-k.k (omega arith)),
+      s.requires.ready.1,
+      s.requires.ready.2,
+      fit-kept apart added.outside at (omega arith) (omega arith) (s.requires.ready.4.fit l.loop-k.k (omega arith)),
     )
 
 pub overflow_add-k : goal.overflow_add-k
@@ -59,7 +59,7 @@ loop-k-preserved c = let x = c in
     let few = length-extend a.plan.now a.block.now a.i (held_in (slot_at l.loop-k.work at)) a.can in (
       omega arith,
       omega (arith, x.extend_one-out.ensures.total),
-      all-turn a.plan.now a.block.now a.i a.can a.src a.count l.loop-k.k s.requires.limit_in_bounds.2
+      all-turn a.plan.now a.block.now a.i a.can a.src a.count l.loop-k.k s.requires.room.2
           (omega arith) l.loop-k.invariant.2 x.extend_one-out.ensures,
     )
 
@@ -67,7 +67,7 @@ pub begin-requires : goal.begin-requires
 begin-requires c = let l = c in
     let s = l in
     let size = l.loop-k.invariant.2.size in
-    (omega arith, omega arith, omega (arith, s.requires.count_le_most_live.1), s.requires.count_le_most_live.2, s.requires.count_le_most_live.3)
+    (omega arith, omega arith, omega (arith, s.requires.ready.1), s.requires.ready.2, s.requires.ready.3)
 
 pub shape_of-work : goal.shape_of-work
 shape_of-work c = let x = c in

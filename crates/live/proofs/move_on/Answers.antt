@@ -17,8 +17,8 @@ pub advance-out-requires : goal.advance-out-requires
 advance-out-requires c = let s = c in
     let stands = s.requires.stands.0 in
     let few = stands.few in record {
-      limit_in_bounds = (other-in stands, start-in stands, halves-apart stands);
-      count_le_most_live = (omega (arith, few-stand stands), s.requires.can_bound.0, s.requires.can_bound.1, s.requires.can_bound.2, s.requires.can_bound.3);
+      room = (other-in stands, start-in stands, halves-apart stands);
+      ready = (omega (arith, few-stand stands), s.requires.ready.0, s.requires.ready.1, s.requires.ready.2, s.requires.ready.3);
     }
 
 pub returns : goal.returns
