@@ -81,6 +81,7 @@ module _ (p : Pattern) (o : InOrder p) (plan : List ℕ) (is : IsPlan p plan) (b
   -- ## What a live reading is known by
 
   at_most : (r : Reading) → Partial p B r → {b : Binding} → Memᴰ b r → b.at ≤ last_of r
+  at_most [] h {b = b} _ = elim h [ ]
   at_most (x ∷ r) h (Memᴰ.head e) = omega (arith, ap (λ (c : Binding). c.at) e)
   at_most (x ∷ r) h (Memᴰ.tail m) = omega (arith, below p B x r h m)
 

@@ -37,9 +37,9 @@ pub struct Tell {
 
 // Is record i more than the duration after the reading's first?
 fn is_late(block: &[u8], i: usize, duration: u64, slot: &[u8]) -> bool
-    requires record_bytes_in_bounds { (record_bytes * i + record_bytes ≤ length block.now) × (length slot.now ≡ slot_bytes)
+    requires inside { (record_bytes * i + record_bytes ≤ length block.now) × (length slot.now ≡ slot_bytes)
         × (1 ≤ count_in slot.now) }
-    requires record_bytes_in_bounds_2 { record_bytes * start_of (held_in slot.now).bindings + record_bytes ≤ length block.now }
+    requires first_inside { record_bytes * start_of (held_in slot.now).bindings + record_bytes ≤ length block.now }
     ensures { result ≡ is_late block.now i duration (held_in slot.now) }
 {
     let first = records::time_at(block, slots::binding_record(slot, 0));

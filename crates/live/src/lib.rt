@@ -288,9 +288,9 @@ fn advance(
     dst: usize,
     limit: usize,
 ) -> Out
-    requires limit_in_bounds { (dst + slot_bytes * limit ≤ length work.old) × (src + slot_bytes * count ≤ length work.old)
+    requires room { (dst + slot_bytes * limit ≤ length work.old) × (src + slot_bytes * count ≤ length work.old)
         × Apart src (src + slot_bytes * count) dst limit }
-    requires count_le_most_live { (count ≤ most_live) × (can < 2 ^ most_variables) × (i < most_records) × Sound plan.now
+    requires ready { (count ≤ most_live) × (can < 2 ^ most_variables) × (i < most_records) × Sound plan.now
         × Ready work.old plan.now block.now i src count }
     ensures { Added work.old work.new dst limit 0 false result.total (is_set result.over)
         (step_by plan.now block.now i can (slots_at work.old src count)) }
@@ -317,7 +317,7 @@ pub fn move_on(
 ) -> Stand
     requires stands { Stands (length work.old) limit stand.half stand.start stand.count
         × (long (slots_at work.old stand.start stand.count) ≡ false) × (is_set stand.over ≡ false) }
-    requires can_bound { (can < 2 ^ most_variables) × (i < most_records) × Sound plan.now
+    requires ready { (can < 2 ^ most_variables) × (i < most_records) × Sound plan.now
         × Ready work.old plan.now block.now i stand.start stand.count }
     ensures { Moved work.old work.new limit result.half result.start
         result.count (is_set result.over) (step_by plan.now block.now i can

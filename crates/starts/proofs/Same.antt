@@ -208,6 +208,7 @@ module _ (most : ℕ) where
 
 least-mem : (none : ℕ) (l : List Found) (k : ℕ) → Memᴰ (over k) l → least_over none l ≤ k
 unfolding least_over is_over over_at
+least-mem none [] k x' = elim x' [ ]
 least-mem none (closed mark r ∷ l) k (Memᴰ.tail m) = least-mem none l k m
 least-mem none (over j ∷ l) k (Memᴰ.tail m) = let h = least-mem none l k m in omega arith
 least-mem none (over j ∷ l) k (Memᴰ.head e) = let h : k ≡ j = ap over_at e in omega arith

@@ -1,0 +1,26 @@
+-- `live::spread` meets its contract: the extensions variable by variable, the lowest of those left first.
+-- Assumes nothing.
+use mathlib.Core.Path.{ap, ◌∙◌}
+use Prim.Native.Nat.{ℕ, ◌^◌, ◌<◌}
+use native.Mathlib.Omega.{arith}
+use lib.Pow.{pow_pos}
+use Rattle.patterns.specs.Patterns.{most_variables}
+use Rattle.slots.specs.Slots.{Held, held_in, slot_at}
+use Rattle.firing.proofs.Joins.{weight-le}
+use Rattle.live.specs.Flags.{is_set}
+use Rattle.live.specs.Live.{fired_by}
+use Rattle.live.proofs.Memory.{slot_kept}
+use Rattle.live.proofs.MaskInTurn.{bit_below}
+use Rattle.live.proofs.Steps.{fired-none, fired-lowest, length-fired}
+use Rattle.live.proofs.Adding.{Partly, partly-start, partly-turn, partly-all, partly-total}
+use Rattle.live.proofs.Fits.{fit-kept}
+use Rattle.live.proofs.spread.Given as goal
+
+abbrev pub invariant-loop-rest : goal.invariant-loop-rest
+invariant-loop-rest l = (l.rest < 2 ^ most_variables)
+    × Partly l.initial.work l.work l.dst l.limit l.initial.more.total (is_set l.initial.more.over) l.more.total (is_set l.more.over)
+    (fired_by l.plan l.block l.i l.can (held_in (slot_at l.initial.work l.from)))
+    (fired_by l.plan l.block l.i l.rest (held_in (slot_at l.initial.work l.from)))
+
+abbrev pub decreases-loop-rest : goal.decreases-loop-rest
+decreases-loop-rest l = l.rest
