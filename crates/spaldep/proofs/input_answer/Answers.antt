@@ -3,7 +3,6 @@ use mathlib.Core.Path.{◌∙◌, sym, ap}
 use Rattle.patterns.specs.declared.Checked.{Checked}
 use Rattle.records.specs.Blocks.{refused}
 use Rattle.rule.proofs.Inputs.{input-pattern, input-block}
-use borrow.Author.Rules.{rules}
 use Rattle.spaldep.proofs.input_answer.Goals as goal
 
 pub returns-then-checked-ne0 : goal.returns-then-checked-ne0

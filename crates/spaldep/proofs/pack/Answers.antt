@@ -1,7 +1,6 @@
 -- `spaldep::pack` meets its contract. Assumes nothing.
 use Rattle.spaldep.specs.Packed.{packed_answer}
 use native.Mathlib.Omega.{arith}
-use borrow.Author.Rules.{rules}
 use Rattle.spaldep.proofs.pack.Goals as goal
 
 pub returns : goal.returns

@@ -1,7 +1,6 @@
 -- `spaldep::place_or_used` meets its contract. Assumes nothing.
 use borrow.Author.Tests.{eq-eqb, ne_eqb}
 use Rattle.spaldep.specs.Packed.{place_or_used}
-use borrow.Author.Rules.{rules}
 use Rattle.spaldep.proofs.place_or_used.Goals as goal
 
 pub returns-then-a-eq0 : goal.returns-then-a-eq0

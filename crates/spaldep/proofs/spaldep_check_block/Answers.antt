@@ -1,7 +1,6 @@
 -- `spaldep::spaldep_check_block` meets its contract. Assumes nothing.
 use mathlib.Core.Path.{◌∙◌, ap}
 use Rattle.spaldep.specs.Packed.{packed_answer}
-use borrow.Author.Rules.{rules}
 use Rattle.spaldep.proofs.spaldep_check_block.Goals as goal
 
 pub returns : goal.returns

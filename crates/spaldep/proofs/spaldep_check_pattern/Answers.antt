@@ -3,7 +3,6 @@ use mathlib.Core.Path.{◌∙◌, ap}
 use Rattle.patterns.specs.declared.Checked.{Checked}
 use Rattle.records.specs.Blocks.{refused}
 use Rattle.spaldep.specs.Packed.{packed_answer}
-use borrow.Author.Rules.{rules}
 use Rattle.spaldep.proofs.spaldep_check_pattern.Goals as goal
 
 pub returns : goal.returns

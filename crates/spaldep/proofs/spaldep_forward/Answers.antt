@@ -3,7 +3,6 @@ use mathlib.Core.Path.{◌∙◌, ap}
 use Rattle.spaldep.specs.Packed.{packed_answer}
 use Rattle.spaldep.specs.Host.{ForwardHost}
 use Rattle.spaldep.proofs.Unfit.{unfit-forward}
-use borrow.Author.Rules.{rules}
 use Rattle.spaldep.proofs.spaldep_forward.Goals as goal
 
 pub returns-then-is_unfit : goal.returns-then-is_unfit

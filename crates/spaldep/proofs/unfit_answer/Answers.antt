@@ -2,7 +2,6 @@
 use mathlib.Core.Path.{◌∙◌, sym, ap}
 use Rattle.records.specs.declared.Answer.{Answer}
 use Rattle.spaldep.proofs.Unfit.{unfit-input, unfit-result}
-use borrow.Author.Rules.{rules}
 use Rattle.spaldep.proofs.unfit_answer.Goals as goal
 
 pub returns-then-input-ne0 : goal.returns-then-input-ne0

@@ -5,7 +5,6 @@ use Rattle.records.specs.declared.Answer.{Answer}
 use Rattle.patterns.specs.declared.Checked.{Checked}
 use Rattle.index.specs.Upto.{first_refusal}
 use Rattle.spaldep.proofs.Unfit.{unfit-first, unfit-rest}
-use borrow.Author.Rules.{rules}
 use Rattle.spaldep.proofs.unfit_search.Goals as goal
 
 pub returns-then-first-ne0 : goal.returns-then-first-ne0
