@@ -1,5 +1,5 @@
 -- What the lines of a text have told, and what one line more tells.
-use Rattle.std.specs.Prelude.{◌≡◌, Bool, true, false, List, [], ◌∷◌, ◌++◌, map, ℕ, ◌+◌, ◌≤◌, ◌<◌, min, length, get_or, take}
+use Rattle.std.specs.Prelude.{◌≡◌, true, false, List, [], ◌∷◌, ◌++◌, map, ℕ, ◌+◌, ◌≤◌, min, length, get_or, take}
 use Rattle.numbers.specs.Numbers.{upto}
 use Rattle.patterns.specs.Patterns.{most_variables, most_conditions}
 use Rattle.form.specs.Form.{Member, When, line_feed, first_letter, letters, names}

@@ -1,12 +1,12 @@
 -- The example as text: its bytes are those of the pattern in section 10 of the rules. Assumes nothing.
 use mathlib.Core.Path.{◌≡◌, refl}
 use mathlib.Core.Bool.{true, false}
-use mathlib.Core.List.{List, [], ◌∷◌, ◌++◌, map, flat_map}
+use mathlib.Core.List.{[], ◌∷◌, flat_map}
 use Prim.Native.Nat.{ℕ}
-use lib.IntN.{pos, negsuc}
+use lib.IntN.{pos}
 use Rattle.numbers.specs.Bytes.{word_bytes}
 use Rattle.numbers.specs.Decimal.{digits, decimal}
-use Rattle.form.specs.Form.{Member, Side, When, Making, attribute_words, operator_words, attribute_word, operator_word}
+use Rattle.form.specs.Form.{Side, Making, attribute_words, operator_words, attribute_word, operator_word}
 use Rattle.form.specs.Form.{member_word, side_word, integer, operand_word, spaced, line, set_line, when_line, within_line}
 use Rattle.form.specs.Form.{text_of, names}
 use Rattle.form.specs.Form.Operand.{constant, other}

@@ -1,7 +1,7 @@
 -- A text line by line: what its lines are made of, and which line may follow which. The proofs use it in place of
 -- `Making`, of which it is another form.
-use Rattle.std.specs.Prelude.{◌≡◌, ℕ, zero, suc, ◌≤◌}
-use mathlib.Core.List.{List, [], ◌∷◌, ◌++◌, map, flat_map, Memᴰ}
+use Rattle.std.specs.Prelude.{◌≡◌, ℕ, ◌≤◌}
+use mathlib.Core.List.{List, [], ◌∷◌, ◌++◌, map, Memᴰ}
 use Rattle.form.specs.Form.{Member, When, Making, set_line, when_line, within_line, names_of, IsLetter, Once}
 use Rattle.form.specs.Form.{WhenInOrder}
 

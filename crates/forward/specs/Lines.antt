@@ -1,5 +1,5 @@
 -- Reported readings put one after the other into a result.
-use Rattle.std.specs.Prelude.{◌≡◌, Bool, false, List, ◌++◌, ℕ, ◌+◌, ◌*◌, ◌/◌, ◌≤◌, ltb, length}
+use Rattle.std.specs.Prelude.{◌≡◌, Bool, false, List, ◌++◌, ℕ, ◌*◌, ◌/◌, ◌≤◌, ltb, length}
 use Rattle.numbers.specs.Numbers.{bytes_of, written}
 use Rattle.rule.specs.Rule.{Line, pack}
 

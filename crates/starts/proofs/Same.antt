@@ -17,7 +17,7 @@ use Rattle.rule.specs.Starts.Found.{closed, over}
 use Rattle.slots.specs.Results.{line_numbers}
 use Rattle.slots.proofs.Results.{length-written}
 use Rattle.starts.specs.declared.Counts.{Counts}
-use Rattle.starts.specs.Sinks.{Sink, sink_of, stop, sum, put, emit, emits, Told, Same, answer_by, left_by, measure_by}
+use Rattle.starts.specs.Sinks.{Sink, sink_of, sum, put, emit, emits, Told, Same, answer_by, left_by, measure_by}
 use Rattle.starts.specs.Sinks.Same.{equal, known, told}
 use Rattle.starts.proofs.Sinks.{put-room, put-none, least-all}
 

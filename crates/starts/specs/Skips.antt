@@ -10,7 +10,7 @@ use Rattle.patterns.specs.Patterns.{most_variables}
 use Rattle.rule.specs.Rule.{Block, Reading}
 use Rattle.rule.specs.Promises.{most_bindings}
 use Rattle.rule.specs.Starts.Found.{over}
-use Rattle.rule.specs.Starts.{Found, until, with_binding, in_turn, close, skip_until, found_all}
+use Rattle.rule.specs.Starts.{Found, with_binding, in_turn, close, skip_until, found_all}
 use Rattle.slots.specs.Slots.{count_in, held_in}
 use Rattle.reach.specs.declared.Start.{Start}
 use Rattle.reach.specs.Readings.{firing_by, Ready, Of}

@@ -3,7 +3,7 @@
 use mathlib.Core.Path.{◌≡◌, refl, sym, ap, subst, ◌∙◌}
 use mathlib.Core.Bool.{Bool, true, false, ◌&&◌}
 use mathlib.Core.List.{List}
-use Prim.Native.Nat.{ℕ, suc, ◌+◌, ◌-◌, ◌^◌, ◌≤◌, ◌<◌}
+use Prim.Native.Nat.{ℕ, suc, ◌+◌, ◌^◌, ◌≤◌, ◌<◌}
 use native.Mathlib.Nat.{lt_of_le_of_lt}
 use native.Mathlib.Numerals.{add-one}
 use native.Mathlib.Omega.{arith}
@@ -18,7 +18,6 @@ use Rattle.records.specs.Blocks.{most_records}
 use Rattle.patterns.specs.Patterns.{most_variables}
 use Rattle.automaton.proofs.Membership.{clash}
 use Rattle.rule.specs.Promises.{most_bindings}
-use Rattle.rule.specs.Starts.Found.{over}
 use Rattle.firing.specs.Firing.{can_by}
 use Rattle.reach.specs.Readings.{Usable}
 use Rattle.states.specs.States.{link_at, fresh_mark, fresh_of, shown, state_of, leaves_from, Stands, Listed, Inside}

@@ -6,7 +6,6 @@ use mathlib.Core.Logic.{⊎_elim}
 use Prim.Native.Nat.{ℕ, min}
 use Rattle.records.specs.declared.Answer.{Answer}
 use Rattle.records.specs.Blocks.{refused}
-use Rattle.patterns.specs.declared.Checked.{Checked}
 use Rattle.patterns.specs.Checked.{pattern_answer}
 use Rattle.form.specs.Form.{Making, InForm}
 use Rattle.form.specs.Lines.{FirstBad}

@@ -8,7 +8,6 @@ use Rattle.records.specs.declared.Answer.{Answer}
 use Rattle.records.specs.Blocks.{refused}
 use Rattle.patterns.specs.declared.Pattern.{Pattern}
 use Rattle.patterns.specs.declared.Checked.{Checked}
-use Rattle.patterns.specs.Patterns.{duration}
 use Rattle.patterns.specs.Checked.{InOrder, pattern_up_to, pattern_of, pattern_answer}
 use Rattle.patterns.proofs.InOrder.{accepted-pattern, accepted-in-order}
 use Rattle.form.specs.Form.{text_of}

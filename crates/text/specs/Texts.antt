@@ -1,5 +1,5 @@
 -- What comes of the lines of a text.
-use Rattle.std.specs.Prelude.{◌≡◌, Bool, true, false, ℕ, take}
+use Rattle.std.specs.Prelude.{◌≡◌, true, false, ℕ, take}
 use mathlib.Core.List.{List, ◌++◌, flat_map}
 use Rattle.numbers.specs.Bytes.{word_bytes}
 use Rattle.form.specs.Form.{Making, InForm}

@@ -12,7 +12,7 @@ use Rattle.numbers.proofs.Cases.{by-test, by_order, neither, not-not}
 use Rattle.patterns.specs.declared.Condition.{Condition}
 use Rattle.patterns.specs.Patterns.{last_attribute, last_operator, form_broken}
 use Rattle.patterns.specs.Comparison.{signed, constant_value}
-use Rattle.form.specs.Form.{constant, first_letter, in_range, OperandInOrder, WhenInOrder}
+use Rattle.form.specs.Form.{first_letter, in_range, OperandInOrder, WhenInOrder}
 use Rattle.form.specs.Packed.{bits_of, condition_in, condition_bits, when_bits}
 use Rattle.wording.specs.Wording.{letter_of, when_of}
 use Rattle.wording.proofs.Pieces.{right-constant, right-other}

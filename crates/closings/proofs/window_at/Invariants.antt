@@ -1,12 +1,8 @@
 -- `closings::window_at` meets its contract: the first gap, the first record past the window, or the end. Assumes nothing.
-use native.Mathlib.Omega.{arith}
-use mathlib.Core.Path.{◌≡◌, refl, sym, subst, ◌∙◌}
-use Prim.Native.Nat.{ℕ, ◌+◌, ◌-◌, ◌≤◌, ◌<◌}
-use borrow.Author.Tests.{ltb-false}
+use mathlib.Core.Path.{◌≡◌}
+use Prim.Native.Nat.{◌-◌, ◌≤◌, ◌<◌}
 use Rattle.records.specs.Records.{record_at, record_count}
-use Rattle.closings.specs.Closings.{OpenTo, WindowIs}
-use Rattle.closings.proofs.Windows.{open-from, open_more, window-gap, window-past, window-end}
-use borrow.Author.Rules.{rules}
+use Rattle.closings.specs.Closings.{OpenTo}
 use Rattle.closings.proofs.window_at.Given as goal
 
 abbrev pub invariant-loop-k : goal.invariant-loop-k

@@ -1,10 +1,8 @@
 -- `drafts::begins` meets its contract. The loop's invariant: the bytes passed are the word's. Assumes nothing.
-use mathlib.Core.Path.{◌≡◌, sym}
+use mathlib.Core.Path.{sym}
 use mathlib.Core.Bool.{true≢false}
-use Prim.Native.Nat.{ℕ, ◌-◌, ◌≤◌, ◌<◌}
 use native.Mathlib.Omega.{arith}
 use borrow.Author.Count.{below_more}
-use lib.ListN.{length, get_or}
 use Rattle.drafts.proofs.Lists.{front, front_length, front_same}
 use Rattle.drafts.proofs.begins.Goals as goal
 

@@ -1,11 +1,7 @@
 -- `drafts::begins` meets its contract. The loop's invariant: the bytes passed are the word's. Assumes nothing.
-use mathlib.Core.Path.{◌≡◌, sym}
-use mathlib.Core.Bool.{true≢false}
+use mathlib.Core.Path.{◌≡◌}
 use Prim.Native.Nat.{ℕ, ◌-◌, ◌≤◌, ◌<◌}
-use native.Mathlib.Omega.{arith}
-use borrow.Author.Count.{below_more}
 use lib.ListN.{length, get_or}
-use Rattle.drafts.proofs.Lists.{front, front_length, front_same}
 use Rattle.drafts.proofs.begins.Given as goal
 
 abbrev pub invariant-loop-i : goal.invariant-loop-i

@@ -4,7 +4,6 @@ use Prim.Native.Nat.{ℕ, ◌≤◌}
 use native.Mathlib.Omega.{arith}
 use lib.ListN.{length}
 use Rattle.drafts.proofs.Pieces.{piece-alone, piece-group, piece-short, piece-closed, piece-other}
-use borrow.Author.Rules.{rules}
 use Rattle.drafts.proofs.first_member.Goals as goal
 
 more : (n : ℕ) → 2 ≤ n → ¬ (n ≡ 2) → 3 ≤ n

@@ -2,12 +2,10 @@
 -- Assumes nothing.
 use mathlib.Core.Path.{◌≡◌, sym, ap, subst}
 use mathlib.Core.Bool.{true}
-use mathlib.Core.List.{List}
-use Prim.Native.Nat.{ℕ, ◌-◌, ◌≤◌, ◌<◌}
+use Prim.Native.Nat.{ℕ, ◌<◌}
 use native.Mathlib.Omega.{arith}
 use lib.ListN.{length}
-use Rattle.form.specs.Items.{Item, start, Valid}
-use Rattle.drafts.specs.Drafts.{Small, DraftOf}
+use Rattle.drafts.specs.Drafts.{Small}
 use Rattle.drafts.specs.declared.Draft.{Draft}
 use Rattle.drafts.proofs.Holding.{small-set, small-refused}
 use Rattle.drafts.proofs.Setting.{Progress, begun, ended, left-part, piece-letter, piece-size, no_name}

@@ -1,17 +1,11 @@
 -- `drafts::read_set` meets its contract. The loop's invariant: the names up to the place have been read.
 -- Assumes nothing.
-use mathlib.Core.Path.{◌≡◌, sym, ap, subst}
-use mathlib.Core.Bool.{true}
 use mathlib.Core.List.{List}
-use Prim.Native.Nat.{ℕ, ◌-◌, ◌≤◌, ◌<◌}
-use native.Mathlib.Omega.{arith}
+use Prim.Native.Nat.{◌-◌, ◌≤◌}
 use lib.ListN.{length}
 use Rattle.form.specs.Items.{Item, start, Valid}
-use Rattle.drafts.specs.Drafts.{Small, DraftOf}
-use Rattle.drafts.specs.declared.Draft.{Draft}
-use Rattle.drafts.proofs.Holding.{small-set, small-refused}
-use Rattle.drafts.proofs.Setting.{Progress, begun, ended, left-part, piece-letter, piece-size, no_name}
-use Rattle.drafts.proofs.Setting.{small-taken, name-taken, name_new, too-late, no_names}
+use Rattle.drafts.specs.Drafts.{Small}
+use Rattle.drafts.proofs.Setting.{Progress}
 use Rattle.drafts.proofs.read_set.Given as goal
 
 abbrev pub invariant-loop-at : goal.invariant-loop-at

@@ -1,7 +1,6 @@
 -- `drafts::with_member` meets its contract. Assumes nothing.
 use Prim.Native.Nat.{◌-◌}
 use lib.ListN.{set}
-use borrow.Author.Rules.{rules}
 use Rattle.form.specs.Form.{first_letter}
 use Rattle.drafts.specs.Steps.{again, new}
 use Rattle.drafts.proofs.with_member.Goals as goal

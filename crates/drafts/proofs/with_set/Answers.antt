@@ -1,5 +1,4 @@
 -- `drafts::with_set` meets its contract. Assumes nothing.
-use borrow.Author.Rules.{rules}
 use Rattle.form.specs.Items.{in_sets}
 use Rattle.drafts.proofs.with_set.Goals as goal
 

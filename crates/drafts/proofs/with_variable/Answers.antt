@@ -1,10 +1,9 @@
 -- `drafts::with_variable` meets its contract. Assumes nothing.
 use mathlib.Core.Path.{sym, ap}
-use Prim.Native.Nat.{ℕ, ◌+◌, ◌*◌, ◌≤◌}
+use Prim.Native.Nat.{ℕ, ◌+◌, ◌*◌}
 use native.Mathlib.Omega.{arith}
 use lib.ListN.{set}
 use lib.Seq.{set_out}
-use borrow.Author.Rules.{rules}
 use Rattle.numbers.specs.Numbers.{one_if}
 use Rattle.numbers.proofs.Count.{one_if-bound}
 use Rattle.drafts.proofs.with_variable.Goals as goal

@@ -1,10 +1,6 @@
 -- `drafts::word_end` meets its contract. The loop's invariant: no byte passed is a space. Assumes nothing.
-use mathlib.Core.Path.{◌≡◌}
-use Prim.Native.Nat.{ℕ, ◌-◌, ◌≤◌, ◌<◌}
 use native.Mathlib.Omega.{arith}
 use borrow.Author.Count.{below_more}
-use lib.ListN.{length, get_or}
-use Rattle.form.specs.Form.{space}
 use Rattle.drafts.proofs.word_end.Goals as goal
 
 pub loop-at-init : goal.loop-at-init

@@ -1,18 +1,16 @@
 -- `exceeds::any_joins` meets its contract. The loop's invariant: of the variables asked, those that are left out do not
 -- join. Assumes nothing.
 use native.Mathlib.Omega.{arith}
-use mathlib.Core.Path.{◌≡◌, sym, ap, ◌∙◌}
-use mathlib.Core.Bool.{true, false, true≢false}
-use Prim.Native.Nat.{ℕ, ◌^◌, ◌<◌}
+use mathlib.Core.Path.{sym, ap, ◌∙◌}
+use mathlib.Core.Bool.{true≢false}
+use Prim.Native.Nat.{ℕ}
 use Rattle.numbers.specs.Bits.{bit}
 use Rattle.numbers.proofs.Bits.{bit-zero}
 use Rattle.patterns.specs.Patterns.{most_variables}
 use Rattle.automaton.proofs.Membership.{clash}
 use Rattle.slots.specs.Slots.{held_in}
-use Rattle.firing.specs.Firing.{joins_by}
 use Rattle.reach.proofs.MaskInTurn.{low_bits, rest-less}
 use Rattle.exceeds.proofs.StillOpen.{joins-rest}
-use borrow.Author.Rules.{rules}
 use Rattle.exceeds.proofs.any_joins.Goals as goal
 
 pub loop-rest-init : goal.loop-rest-init

@@ -3,15 +3,14 @@
 use native.Mathlib.Omega.{arith}
 use mathlib.Core.Path.{subst}
 use mathlib.Core.Bool.{true≢false}
-use Prim.Native.Nat.{ℕ, ◌+◌, ◌-◌, ◌≤◌}
-use Rattle.rule.specs.Promises.{most_bindings}
+use Prim.Native.Nat.{ℕ}
 use Rattle.slots.specs.Slots.{held_in}
 use Rattle.slots.proofs.Slots.{length-held_in}
 use Rattle.reach.proofs.Readings.{fit}
 use Rattle.reach.proofs.Masks.{read-bound}
 use Rattle.exceeds.specs.Open.{IsOpen}
 use Rattle.exceeds.proofs.Places.{none_left}
-use Rattle.exceeds.proofs.Bounds.{Fixed, Few, few-first, few-turn, few-over, counted-sum}
+use Rattle.exceeds.proofs.Bounds.{Fixed, few-first, few-turn, few-over, counted-sum}
 use borrow.Author.Rules.{rules}
 use Rattle.exceeds.proofs.can_exceed.Goals as goal
 

@@ -1,18 +1,9 @@
 -- `exceeds::can_exceed` meets its contract. The loop's invariant: no reading that the slot's can have become before
 -- record i has more bindings than are counted. Assumes nothing.
-use native.Mathlib.Omega.{arith}
-use mathlib.Core.Path.{subst}
-use mathlib.Core.Bool.{true≢false}
 use Prim.Native.Nat.{ℕ, ◌+◌, ◌-◌, ◌≤◌}
 use Rattle.rule.specs.Promises.{most_bindings}
 use Rattle.slots.specs.Slots.{held_in}
-use Rattle.slots.proofs.Slots.{length-held_in}
-use Rattle.reach.proofs.Readings.{fit}
-use Rattle.reach.proofs.Masks.{read-bound}
-use Rattle.exceeds.specs.Open.{IsOpen}
-use Rattle.exceeds.proofs.Places.{none_left}
-use Rattle.exceeds.proofs.Bounds.{Fixed, Few, few-first, few-turn, few-over, counted-sum}
-use borrow.Author.Rules.{rules}
+use Rattle.exceeds.proofs.Bounds.{Fixed, Few}
 use Rattle.exceeds.proofs.can_exceed.Given as goal
 
 abbrev pub invariant-loop-variables : goal.invariant-loop-variables

@@ -2,9 +2,7 @@
 use mathlib.Core.Path.{refl}
 use native.Mathlib.Nat.{lt_of_le_of_lt}
 use lib.Bits.{and_le_l}
-use borrow.Author.Tests.{not-true}
 use Rattle.exceeds.specs.Open.Counted.{again, once, full, none}
-use borrow.Author.Rules.{rules}
 use Rattle.exceeds.proofs.count_record.Goals as goal
 
 pub any_joins-requires : goal.any_joins-requires

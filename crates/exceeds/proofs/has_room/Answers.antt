@@ -2,7 +2,6 @@
 use native.Mathlib.Omega.{arith}
 use mathlib.Core.Bool.{true≢false}
 use Rattle.exceeds.proofs.Places.{none_over, none_left}
-use borrow.Author.Rules.{rules}
 use Rattle.exceeds.proofs.has_room.Goals as goal
 
 pub returns-then-end-j : goal.returns-then-end-j

@@ -1,8 +1,6 @@
 -- `exceeds::is_again` meets its contract: v is plain, or unbound, or bound. Assumes nothing.
 use mathlib.Core.Path.{sym, ◌∙◌}
-use borrow.Author.Tests.{not-true, not-false}
 use Rattle.exceeds.proofs.StillOpen.{again-plain, again-unbound, again-bound}
-use borrow.Author.Rules.{rules}
 use Rattle.exceeds.proofs.is_again.Goals as goal
 
 pub returns-then-not-loops : goal.returns-then-not-loops

@@ -2,7 +2,6 @@
 use mathlib.Core.Path.{sym, ap, ◌∙◌}
 use mathlib.Core.Bool.{not}
 use Rattle.exceeds.proofs.StillOpen.{once-looping, once-plain}
-use borrow.Author.Rules.{rules}
 use Rattle.exceeds.proofs.is_once.Goals as goal
 
 pub returns-then-loops : goal.returns-then-loops

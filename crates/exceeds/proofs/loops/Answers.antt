@@ -3,7 +3,6 @@ use mathlib.Core.Path.{ap, ◌∙◌}
 use Prim.Native.Nat.{ℕ}
 use Rattle.firing.specs.Firing.{leaves_by}
 use Rattle.exceeds.specs.Open.{loops_by}
-use borrow.Author.Rules.{rules}
 use Rattle.exceeds.proofs.loops.Goals as goal
 
 pub returns : goal.returns

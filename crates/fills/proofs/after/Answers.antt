@@ -7,7 +7,7 @@ use Rattle.numbers.specs.Numbers.{one_if}
 use Rattle.numbers.proofs.Count.{one_if-bound}
 use Rattle.reach.proofs.Readings.{fit}
 use Rattle.reach.proofs.Masks.{read-bound, allowed-read}
-use Rattle.fills.specs.Filling.{size_of, Lacks, Late}
+use Rattle.fills.specs.Filling.{size_of, Lacks}
 use Rattle.fills.proofs.Lacking.{lacks-all, lacks-next, late-from, late-next, asked-read}
 use borrow.Author.Rules.{rules}
 use Rattle.fills.proofs.after.Goals as goal

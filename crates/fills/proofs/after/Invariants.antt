@@ -1,15 +1,7 @@
 -- `fills::after` meets its contract. The loop's invariant: no reading has bound more of x than `taken` before record i,
 -- nor all of x before an earlier one. Assumes nothing.
-use native.Mathlib.Omega.{arith}
-use mathlib.Core.Path.{◌≡◌, subst}
-use Prim.Native.Nat.{ℕ, ◌+◌, ◌-◌, ◌≤◌, ◌<◌}
-use Rattle.numbers.specs.Numbers.{one_if}
-use Rattle.numbers.proofs.Count.{one_if-bound}
-use Rattle.reach.proofs.Readings.{fit}
-use Rattle.reach.proofs.Masks.{read-bound, allowed-read}
-use Rattle.fills.specs.Filling.{size_of, Lacks, Late}
-use Rattle.fills.proofs.Lacking.{lacks-all, lacks-next, late-from, late-next, asked-read}
-use borrow.Author.Rules.{rules}
+use Prim.Native.Nat.{◌-◌, ◌≤◌}
+use Rattle.fills.specs.Filling.{Lacks, Late}
 use Rattle.fills.proofs.after.Given as goal
 
 abbrev pub invariant-loop-taken : goal.invariant-loop-taken

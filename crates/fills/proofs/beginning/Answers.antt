@@ -1,10 +1,8 @@
 -- `fills::beginning` meets its contract: one variable of the set tells whether it has the order mark. Assumes nothing.
 use mathlib.Core.Path.{refl}
-use borrow.Author.Tests.{not-false}
 use Rattle.patterns.specs.Patterns.{most_variables}
 use Rattle.reach.proofs.MaskInTurn.{low_bits}
 use Rattle.fills.specs.Opening.Begins.{at_once, later}
-use borrow.Author.Rules.{rules}
 use Rattle.fills.proofs.beginning.Goals as goal
 
 pub is_marked-requires : goal.is_marked-requires

@@ -7,7 +7,6 @@ use lib.Dec.{ltb}
 use Rattle.records.specs.Records.{record_at}
 use Rattle.automaton.proofs.Membership.{clash}
 use Rattle.fills.specs.Opening.Idle.{unable, early}
-use borrow.Author.Rules.{rules}
 use Rattle.fills.proofs.begins.Goals as goal
 
 pub returns-then-able-eq0 : goal.returns-then-able-eq0

@@ -1,7 +1,6 @@
 -- `fills::is_marked` meets its contract. Assumes nothing.
 use mathlib.Core.Path.{refl, sym, ◌∙◌}
 use Rattle.automaton.proofs.Membership.{clash}
-use borrow.Author.Rules.{rules}
 use Rattle.fills.proofs.is_marked.Goals as goal
 
 pub returns-then-plan-v : goal.returns-then-plan-v

@@ -2,7 +2,6 @@
 use mathlib.Core.Path.{refl}
 use native.Mathlib.Omega.{arith}
 use Rattle.fills.specs.Opening.Behind.{kept, taken}
-use borrow.Author.Rules.{rules}
 use Rattle.fills.proofs.last_behind.Goals as goal
 
 pub returns-then-able-eq0 : goal.returns-then-able-eq0

@@ -4,7 +4,6 @@ use Prim.Native.Nat.{ℕ, ◌+◌, ◌-◌, ◌≤◌}
 use native.Mathlib.Omega.{arith}
 use Rattle.slots.specs.Slots.{count_in}
 use Rattle.fills.proofs.OrderMark.{up-to-none, up-to-latest}
-use borrow.Author.Rules.{rules}
 use Rattle.fills.proofs.last_of.Goals as goal
 
 pub returns-then-count-eq0 : goal.returns-then-count-eq0

@@ -1,13 +1,11 @@
 -- `fills::needed` meets its contract: what some variables of the set need, the set needs. Assumes nothing.
 use native.Mathlib.Omega.{arith}
-use mathlib.Core.Path.{◌≡◌, sym, subst, ◌∙◌}
-use mathlib.Core.Bool.{true}
-use Prim.Native.Nat.{ℕ, ◌-◌, ◌^◌, ◌≤◌, ◌<◌}
+use mathlib.Core.Path.{sym, subst, ◌∙◌}
+use Prim.Native.Nat.{◌-◌}
 use lib.Bits.{and_le_l}
 use Rattle.numbers.specs.Bits.{bit}
 use Rattle.numbers.proofs.Bits.{bit-and}
 use Rattle.numbers.proofs.Cases.{both}
-use Rattle.patterns.specs.Patterns.{most_variables}
 use Rattle.fills.specs.Filling.{Late}
 use Rattle.fills.proofs.Lacking.{late-from, late-both, late-wider, without_fewer}
 use borrow.Author.Rules.{rules}

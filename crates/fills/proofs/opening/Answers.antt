@@ -2,8 +2,6 @@
 -- Assumes nothing.
 use native.Mathlib.Omega.{arith}
 use mathlib.Core.Path.{refl}
-use Prim.Native.Nat.{ℕ, ◌-◌, ◌≤◌}
-use Rattle.fills.specs.Opening.{Passes}
 use Rattle.fills.specs.Opening.Passes.{here, past}
 use Rattle.fills.proofs.OrderMark.{behind-bound}
 use borrow.Author.Rules.{rules}

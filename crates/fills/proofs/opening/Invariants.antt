@@ -1,12 +1,7 @@
 -- `fills::opening` meets its contract. The loop's invariant: what passes from record i on passes from the first on.
 -- Assumes nothing.
-use native.Mathlib.Omega.{arith}
-use mathlib.Core.Path.{refl}
 use Prim.Native.Nat.{ℕ, ◌-◌, ◌≤◌}
 use Rattle.fills.specs.Opening.{Passes}
-use Rattle.fills.specs.Opening.Passes.{here, past}
-use Rattle.fills.proofs.OrderMark.{behind-bound}
-use borrow.Author.Rules.{rules}
 use Rattle.fills.proofs.opening.Given as goal
 
 abbrev pub invariant-loop-i : goal.invariant-loop-i

@@ -2,11 +2,9 @@
 use mathlib.Core.Path.{◌∙◌, sym, ap, ap₂}
 use mathlib.Core.Bool.{Bool, ◌&&◌}
 use native.Mathlib.Omega.{arith}
-use borrow.Author.Tests.{not-true, not-false}
 use Rattle.slots.specs.Slots.{held_in, bindings_in, count_in}
 use Rattle.firing.specs.Firing.{joins_by}
 use Rattle.firing.proofs.Joins.{joins-none}
-use borrow.Author.Rules.{rules}
 use Rattle.firing.proofs.agrees.Goals as goal
 
 pub returns-then-not-is_later : goal.returns-then-not-is_later

@@ -6,7 +6,6 @@ use lib.IntN.{pos}
 use Rattle.patterns.specs.Comparison.{orders, order_of}
 use Rattle.patterns.proofs.Comparison.{order-bound}
 use Rattle.plans.specs.Plan.{first_order}
-use borrow.Author.Rules.{rules}
 use Rattle.firing.proofs.fails.Goals as goal
 
 pub overflow_add-result : goal.overflow_add-result

@@ -1,6 +1,5 @@
 -- `firing::is_bound` meets its contract, by the side that v stands on. Assumes nothing.
 use mathlib.Core.Path.{◌∙◌, sym, ap}
-use borrow.Author.Rules.{rules}
 use borrow.Author.Tests.{eq-eqb, ne_eqb}
 use Rattle.numbers.specs.Bits.{bit}
 use Rattle.firing.proofs.Joins.{other-first, other-second}

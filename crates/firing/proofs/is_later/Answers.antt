@@ -4,14 +4,12 @@ use mathlib.Core.Path.{◌≡◌, ◌∙◌, sym, ap, ap₂}
 use mathlib.Core.Bool.{true, false}
 use Prim.Native.Nat.{ℕ, ◌-◌, ◌≤◌, ◌<◌}
 use native.Mathlib.Omega.{arith}
-use borrow.Author.Tests.{not-true, not-false}
 use lib.Dec.{ltb}
 use Rattle.numbers.specs.Bits.{disjoint}
 use Rattle.records.specs.Records.{record_at}
 use Rattle.slots.specs.Slots.{count_in, state_in}
 use Rattle.plans.specs.Plan.{marks_in}
 use Rattle.firing.proofs.Slots.{binding_at, binding-among, later-unmarked, later-empty, later-latest}
-use borrow.Author.Rules.{rules}
 use Rattle.firing.proofs.is_later.Goals as goal
 
 pub returns-then-not-is_disjoint : goal.returns-then-not-is_disjoint

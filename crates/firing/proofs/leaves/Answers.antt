@@ -1,7 +1,6 @@
 -- `firing::leaves` meets its contract: v is bound, or it is not. Assumes nothing.
 use mathlib.Core.Path.{◌∙◌, sym}
 use Rattle.firing.proofs.Slots.{leaves_loop, leaves-open}
-use borrow.Author.Rules.{rules}
 use Rattle.firing.proofs.leaves.Goals as goal
 
 pub returns-then-bit_of : goal.returns-then-bit_of

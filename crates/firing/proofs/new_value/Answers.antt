@@ -5,7 +5,6 @@ use borrow.Author.Tests.{eq-eqb, ne_eqb}
 use Rattle.records.specs.Records.{record_at}
 use Rattle.patterns.specs.Comparison.{value, raise}
 use Rattle.firing.proofs.Joins.{side-first, side-second}
-use borrow.Author.Rules.{rules}
 use Rattle.firing.proofs.new_value.Goals as goal
 
 pub returns-then-k-v : goal.returns-then-k-v

@@ -13,7 +13,6 @@ use Rattle.patterns.specs.Patterns.{condition_of}
 use Rattle.patterns.specs.Comparison.{value, order_of, meets, raise}
 use Rattle.firing.proofs.Slots.{binding_at}
 use Rattle.firing.proofs.Joins.{meets-first, meets-second}
-use borrow.Author.Rules.{rules}
 use Rattle.firing.proofs.pair_holds.Goals as goal
 
 none-fails : (t : Bool) → eqb (one_if (not t)) 0 ≡ t

@@ -1,17 +1,8 @@
 -- `firing::settle_attribute` meets its contract. The loop's invariant: the mask is settled by the conditions of the
 -- kind whose bits are no longer left. Assumes nothing.
-use mathlib.Core.Path.{◌≡◌, ◌∙◌, ap}
+use mathlib.Core.Path.{◌≡◌}
 use Prim.Native.Nat.{◌^◌, ◌<◌}
-use native.Mathlib.Omega.{arith}
-use lib.Pow.{pow_pos}
-use Rattle.records.specs.Records.{record_at}
-use Rattle.patterns.specs.declared.Condition.{Condition}
-use Rattle.patterns.specs.Comparison.{raise, constant_value}
-use Rattle.plans.specs.Plan.{condition_in, others_in}
-use Rattle.firing.proofs.Joins.{weight-le}
-use Rattle.firing.proofs.Settling.{OfKind, bit_below, left_by, others-bound, others-kind, left-first, left-all}
-use Rattle.firing.proofs.Settling.{left-turn, value-settled}
-use borrow.Author.Rules.{rules}
+use Rattle.firing.proofs.Settling.{OfKind, left_by}
 use Rattle.firing.proofs.settle_attribute.Given as goal
 
 abbrev pub invariant-loop-rest : goal.invariant-loop-rest

@@ -1,18 +1,17 @@
 -- `firing::settle_both` meets its contract. The loop's invariant: the mask is settled by the conditions of the kind
 -- whose bits are no longer left. Assumes nothing.
-use mathlib.Core.Path.{◌≡◌, ◌∙◌, ap}
-use Prim.Native.Nat.{◌^◌, ◌<◌}
+use mathlib.Core.Path.{◌∙◌, ap}
+use Prim.Native.Nat.{◌<◌}
 use native.Mathlib.Omega.{arith}
 use lib.Pow.{pow_pos}
 use Rattle.plans.specs.Plan.{condition_in, others_in, both_sides}
 use Rattle.firing.proofs.Joins.{weight-le}
-use Rattle.firing.proofs.Settling.{OfKind, bit_below, left_by, others-bound, others-kind, left-first, left-all}
+use Rattle.firing.proofs.Settling.{bit_below, others-bound, others-kind, left-first, left-all}
 use Rattle.firing.proofs.Settling.{left-turn, sides-settled}
 use Rattle.records.specs.Records.{record_at}
 use Rattle.patterns.specs.declared.Condition.{Condition}
 use Rattle.patterns.specs.Patterns.{most_conditions}
 use Rattle.patterns.specs.Comparison.{value, raise}
-use borrow.Author.Rules.{rules}
 use Rattle.firing.proofs.settle_both.Goals as goal
 
 pub overflow_cast-rest : goal.overflow_cast-rest

@@ -11,7 +11,6 @@ use Rattle.patterns.specs.Patterns.{condition_of}
 use Rattle.patterns.specs.Comparison.{meets, order_of}
 use Rattle.plans.proofs.Plans.{condition-variable}
 use Rattle.firing.proofs.Settling.{weight-fits, taken_out}
-use borrow.Author.Rules.{rules}
 use Rattle.firing.proofs.settle_order.Goals as goal
 
 pub fails-requires : goal.fails-requires

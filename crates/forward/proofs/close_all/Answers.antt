@@ -1,13 +1,11 @@
 -- `forward::close_all` meets its contract: the lines of the full ones, slot by slot. Assumes nothing.
 use mathlib.Core.Path.{◌≡◌}
-use Prim.Native.Nat.{◌+◌, ◌-◌, ◌*◌, ◌≤◌}
+use Prim.Native.Nat.{◌+◌, ◌*◌}
 use native.Mathlib.Omega.{arith}
-use Rattle.slots.specs.Slots.{slot_bytes, slot_at, slots_at}
+use Rattle.slots.specs.Slots.{slot_bytes, slot_at}
 use Rattle.live.specs.Flags.{is_set}
 use Rattle.live.proofs.Parts.{part-slot, length-slot_at}
 use Rattle.live.proofs.TooLong.{slots-short, short-count}
-use Rattle.forward.specs.Closing.{lines_by}
-use Rattle.forward.specs.Lines.{Wrote}
 use Rattle.forward.proofs.Lines.{wrote-start, wrote-turn}
 use Rattle.forward.proofs.close_all.Goals as goal
 

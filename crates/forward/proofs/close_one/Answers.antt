@@ -2,7 +2,6 @@
 use mathlib.Core.Path.{sym, ◌∙◌}
 use Rattle.live.specs.Flags.{is_set}
 use Rattle.forward.proofs.Lines.{wrote-full, wrote-part}
-use borrow.Author.Rules.{rules}
 use Rattle.forward.proofs.close_one.Goals as goal
 
 pub returns-then-is_within : goal.returns-then-is_within

@@ -1,7 +1,6 @@
 -- `forward::count_gone` meets its contract: all at a gap, the late ones at an event. Assumes nothing.
 use mathlib.Core.Path.{sym, ◌∙◌}
 use Rattle.forward.proofs.ClosingCount.{gone-event, gone-gap}
-use borrow.Author.Rules.{rules}
 use Rattle.forward.proofs.count_gone.Goals as goal
 
 pub returns-then-is_event : goal.returns-then-is_event

@@ -1,10 +1,9 @@
 -- `forward::count_late` meets its contract: the loop stops at the first reading that is not late. Assumes nothing.
 use mathlib.Core.Path.{◌≡◌, sym, ◌∙◌}
 use mathlib.Core.Bool.{true}
-use Prim.Native.Nat.{ℕ, ◌+◌, ◌-◌, ◌*◌, ◌≤◌, ◌<◌}
+use Prim.Native.Nat.{ℕ, ◌+◌, ◌*◌, ◌<◌}
 use native.Mathlib.Omega.{arith}
 use borrow.Author.Count.{below_none, below_more}
-use borrow.Author.Tests.{not-true, not-false}
 use Rattle.slots.specs.Slots.{slot_bytes}
 use Rattle.live.proofs.Parts.{part-slot, length-slot_at}
 use Rattle.forward.proofs.ClosingCount.{late_at, stops_at, stops-never}

@@ -1,13 +1,8 @@
 -- `forward::count_late` meets its contract: the loop stops at the first reading that is not late. Assumes nothing.
-use mathlib.Core.Path.{◌≡◌, sym, ◌∙◌}
+use mathlib.Core.Path.{◌≡◌}
 use mathlib.Core.Bool.{true}
-use Prim.Native.Nat.{ℕ, ◌+◌, ◌-◌, ◌*◌, ◌≤◌, ◌<◌}
-use native.Mathlib.Omega.{arith}
-use borrow.Author.Count.{below_none, below_more}
-use borrow.Author.Tests.{not-true, not-false}
-use Rattle.slots.specs.Slots.{slot_bytes}
-use Rattle.live.proofs.Parts.{part-slot, length-slot_at}
-use Rattle.forward.proofs.ClosingCount.{late_at, stops_at, stops-never}
+use Prim.Native.Nat.{ℕ, ◌-◌, ◌≤◌, ◌<◌}
+use Rattle.forward.proofs.ClosingCount.{late_at}
 use Rattle.forward.proofs.count_late.Given as goal
 
 abbrev pub invariant-loop-k : goal.invariant-loop-k

@@ -1,7 +1,6 @@
 -- `forward::finish` meets its contract: working memory cleared, and the result but for what was told. Assumes nothing.
 use mathlib.Core.Path.{refl}
 use native.Mathlib.Omega.{arith}
-use borrow.Author.Rules.{rules}
 use Rattle.forward.proofs.finish.Goals as goal
 
 pub returns-then-answer-ne0 : goal.returns-then-answer-ne0

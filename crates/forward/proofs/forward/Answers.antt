@@ -9,7 +9,6 @@ use Rattle.records.specs.Blocks.{refused}
 use Rattle.patterns.specs.declared.Checked.{Checked}
 use Rattle.forward.proofs.Calls.{limit-good, call-pattern, call-block, call-limit, call-passed, pattern-checked}
 use Rattle.forward.proofs.Calls.{block-prepared, done-room}
-use borrow.Author.Rules.{rules}
 use Rattle.forward.proofs.forward.Goals as goal
 
 pub finish-requires : goal.finish-requires

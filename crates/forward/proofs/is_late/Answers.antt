@@ -1,7 +1,6 @@
 -- `forward::is_late` meets its contract: a record more than the duration after the first. Assumes nothing.
 use native.Mathlib.Omega.{arith}
 use Rattle.forward.proofs.Late.{start-held, late-never, late-held}
-use borrow.Author.Rules.{rules}
 use Rattle.forward.proofs.is_late.Goals as goal
 
 pub time_at-first-requires : goal.time_at-first-requires

@@ -1,6 +1,5 @@
 -- `forward::is_limit_broken` meets its contract: the three ways of row 8. Assumes nothing.
 use Rattle.forward.proofs.Calls.{broken-none, broken-many, broken-room}
-use borrow.Author.Rules.{rules}
 use Rattle.forward.proofs.is_limit_broken.Goals as goal
 
 pub returns-then-limit-lt1 : goal.returns-then-limit-lt1

@@ -2,7 +2,6 @@
 use mathlib.Core.Path.{sym, ◌∙◌}
 use native.Mathlib.Omega.{arith}
 use Rattle.forward.proofs.ClosingCount.{mark-event, mark-gap}
-use borrow.Author.Rules.{rules}
 use Rattle.forward.proofs.mark_at.Goals as goal
 
 pub returns-then-is_event : goal.returns-then-is_event

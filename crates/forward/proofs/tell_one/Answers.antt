@@ -10,7 +10,6 @@ use Rattle.slots.proofs.Slots.{length-held_in}
 use Rattle.live.specs.Flags.{is_set}
 use Rattle.live.proofs.Flags.{flag-set, flag-clear}
 use Rattle.forward.proofs.Lines.{wrote-still, wrote-short, wrote-fits}
-use borrow.Author.Rules.{rules}
 use Rattle.forward.proofs.tell_one.Goals as goal
 
 pub returns-then-tell-ne0 : goal.returns-then-tell-ne0

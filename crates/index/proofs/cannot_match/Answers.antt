@@ -1,12 +1,7 @@
 -- `index::cannot_match` meets its contract. Assumes nothing.
-use mathlib.Core.Path.{◌≡◌, ◌∙◌, sym}
-use mathlib.Core.Bool.{false}
-use Prim.Native.Nat.{ℕ, ◌-◌, ◌<◌}
+use mathlib.Core.Path.{◌∙◌, sym}
 use native.Mathlib.Omega.{arith}
-use borrow.Author.Rules.{rules}
 use borrow.Author.Count.{below_more}
-use Rattle.patterns.specs.Checked.{condition_at}
-use Rattle.index.specs.Index.{rules_out}
 use Rattle.index.proofs.Refusals.{decided-yes, decided-no}
 use Rattle.index.proofs.cannot_match.Goals as goal
 

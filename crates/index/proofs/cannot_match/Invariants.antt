@@ -1,13 +1,9 @@
 -- `index::cannot_match` meets its contract. Assumes nothing.
-use mathlib.Core.Path.{◌≡◌, ◌∙◌, sym}
+use mathlib.Core.Path.{◌≡◌}
 use mathlib.Core.Bool.{false}
 use Prim.Native.Nat.{ℕ, ◌-◌, ◌<◌}
-use native.Mathlib.Omega.{arith}
-use borrow.Author.Rules.{rules}
-use borrow.Author.Count.{below_more}
 use Rattle.patterns.specs.Checked.{condition_at}
 use Rattle.index.specs.Index.{rules_out}
-use Rattle.index.proofs.Refusals.{decided-yes, decided-no}
 use Rattle.index.proofs.cannot_match.Given as goal
 
 abbrev pub invariant-loop-i : goal.invariant-loop-i

@@ -1,7 +1,6 @@
 -- `index::class_counts` meets its contract. Assumes nothing.
 use mathlib.Core.Path.{refl}
 use native.Mathlib.Omega.{arith}
-use borrow.Author.Rules.{rules}
 use Rattle.index.specs.Upto.{fold_types}
 use Rattle.index.proofs.class_counts.Goals as goal
 

@@ -1,6 +1,5 @@
 -- `index::core_bits` meets its contract. Assumes nothing.
 use mathlib.Core.Path.{◌≡◌, ◌∙◌, ap}
-use Prim.Native.Nat.{◌-◌, ◌≤◌}
 use native.Mathlib.Omega.{arith}
 use Rattle.index.specs.Index.{cores}
 use Rattle.index.specs.Upto.{marked_bits}

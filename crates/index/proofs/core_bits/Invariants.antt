@@ -1,10 +1,8 @@
 -- `index::core_bits` meets its contract. Assumes nothing.
-use mathlib.Core.Path.{◌≡◌, ◌∙◌, ap}
+use mathlib.Core.Path.{◌≡◌}
 use Prim.Native.Nat.{◌-◌, ◌≤◌}
-use native.Mathlib.Omega.{arith}
 use Rattle.index.specs.Index.{cores}
 use Rattle.index.specs.Upto.{marked_bits}
-use Rattle.index.proofs.Cores.{bits_none}
 use Rattle.index.proofs.core_bits.Given as goal
 
 abbrev pub invariant-loop-c : goal.invariant-loop-c

@@ -2,7 +2,6 @@
 use mathlib.Core.Path.{◌∙◌, ap}
 use Prim.Native.Nat.{ℕ, ◌-◌}
 use native.Mathlib.Omega.{arith}
-use borrow.Author.Rules.{rules}
 use Rattle.numbers.specs.Bits.{bit}
 use Rattle.index.proofs.Fields.{core-above, core_at}
 use Rattle.index.proofs.core_by.Goals as goal

@@ -1,6 +1,5 @@
 -- `index::cores_field` meets its contract. Assumes nothing.
 use native.Mathlib.Omega.{arith}
-use borrow.Author.Rules.{rules}
 use Rattle.index.proofs.Fields.{cores-is}
 use Rattle.index.proofs.cores_field.Goals as goal
 

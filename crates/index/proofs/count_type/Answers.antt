@@ -3,7 +3,6 @@ use mathlib.Core.Path.{◌∙◌, sym, ap, subst}
 use mathlib.Core.List.{List}
 use Prim.Native.Nat.{ℕ, ◌+◌, ◌/◌, ◌≤◌}
 use native.Mathlib.Omega.{arith}
-use borrow.Author.Rules.{rules}
 use lib.ListN.{get_or, set}
 use Rattle.index.proofs.Types.{types-bound, types-gap, types-event}
 use Rattle.index.proofs.count_type.Goals as goal

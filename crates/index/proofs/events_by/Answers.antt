@@ -1,7 +1,6 @@
 -- `index::events_by` meets its contract. Assumes nothing.
 use mathlib.Core.Path.{sym}
 use native.Mathlib.Omega.{arith}
-use borrow.Author.Rules.{rules}
 use Rattle.index.proofs.Fields.{events-above, events-0, events-1, events-2, events-3, events-4, events-5}
 use Rattle.index.proofs.events_by.Goals as goal
 

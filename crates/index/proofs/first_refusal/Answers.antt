@@ -1,6 +1,5 @@
 -- `index::first_refusal` meets its contract. Assumes nothing.
 use mathlib.Core.Path.{◌∙◌, sym, ap}
-use borrow.Author.Rules.{rules}
 use Rattle.index.specs.Upto.{first_refusal}
 use Rattle.index.proofs.Refusals.{first-pattern, first-index, first-none}
 use Rattle.index.proofs.first_refusal.Goals as goal

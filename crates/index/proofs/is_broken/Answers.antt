@@ -1,6 +1,5 @@
 -- `index::is_broken` meets its contract. Assumes nothing.
 use mathlib.Core.Path.{sym}
-use borrow.Author.Rules.{rules}
 use Rattle.index.proofs.Fields.{broken-length, broken-bits}
 use Rattle.index.proofs.is_broken.Goals as goal
 

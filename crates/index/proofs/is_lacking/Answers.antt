@@ -2,7 +2,6 @@
 use mathlib.Core.Path.{◌∙◌, sym, ap}
 use mathlib.Core.Bool.{not}
 use Prim.Native.Nat.{ℕ}
-use borrow.Author.Rules.{rules}
 use lib.Dec.{eqb}
 use Rattle.index.proofs.Fields.{lacks-core, lacks-class, lacks-other}
 use Rattle.index.proofs.is_lacking.Goals as goal

@@ -1,6 +1,5 @@
 -- `index::is_ruled_out` meets its contract. Assumes nothing.
 use mathlib.Core.Path.{◌∙◌, sym}
-use borrow.Author.Rules.{rules}
 use Rattle.patterns.specs.Checked.{condition_at}
 use Rattle.index.proofs.Fields.{not-constant, not-equals, by-lack}
 use Rattle.index.proofs.is_ruled_out.Goals as goal

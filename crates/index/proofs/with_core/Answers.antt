@@ -1,7 +1,6 @@
 -- `index::with_core` meets its contract. Assumes nothing.
 use mathlib.Core.Path.{◌∙◌, refl, ap}
 use Prim.Native.Nat.{ℕ, ◌-◌, ◌^◌}
-use borrow.Author.Rules.{rules}
 use lib.Bits.{bit_or}
 use Rattle.index.proofs.Cores.{bits-without, bits-with}
 use Rattle.index.proofs.with_core.Goals as goal

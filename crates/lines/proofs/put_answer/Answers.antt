@@ -1,6 +1,5 @@
 -- `lines::put_answer` meets its contract: one line of a refusal, else the lines and the last one. Assumes nothing.
 use native.Mathlib.Omega.{arith}
-use borrow.Author.Rules.{rules}
 use Rattle.lines.specs.Results.{lines_in}
 use Rattle.lines.proofs.Answers.{refused-put, ok-put}
 use Rattle.lines.proofs.put_answer.Goals as goal

@@ -1,6 +1,5 @@
 -- `lines::put_binding` meets its contract: the variable after a space, and the record behind it. Assumes nothing.
 use native.Mathlib.Omega.{arith}
-use borrow.Author.Rules.{rules}
 use Rattle.lines.specs.Text.{binding_text}
 use Rattle.numbers.proofs.Put.{put_then}
 use Rattle.lines.proofs.put_binding.Goals as goal

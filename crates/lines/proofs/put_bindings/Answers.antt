@@ -1,13 +1,7 @@
 -- `lines::put_bindings` meets its contract. The loop's invariant: the first i bindings have been put, at most 8 bytes
 -- each. Assumes nothing.
-use Prim.Native.Nat.{◌+◌, ◌*◌, ◌-◌, ◌≤◌}
 use native.Mathlib.Omega.{arith}
-use lib.ListN.{length}
-use borrow.Author.Rules.{rules}
 use Rattle.lines.proofs.Lines.{no-bindings, one-binding-more, all-bindings}
-use Rattle.numbers.specs.Put.{Put}
-use Rattle.lines.specs.Text.{reading_text}
-use Rattle.lines.specs.Results.{bindings_at}
 use Rattle.lines.proofs.put_bindings.Goals as goal
 
 pub loop-i-init : goal.loop-i-init

@@ -2,7 +2,6 @@
 use mathlib.Core.Path.{◌∙◌}
 use native.Mathlib.Omega.{arith}
 use lib.ListN.{length-set}
-use borrow.Author.Rules.{rules}
 use Rattle.numbers.proofs.Put.{put_byte}
 use Rattle.lines.proofs.Lines.{line-put}
 use Rattle.lines.proofs.put_line.Goals as goal

@@ -1,13 +1,8 @@
 -- `lines::put_lines` meets its contract. The loop's invariant: the first i lines have been put, at most 8 bytes for
 -- each number of the result. Assumes nothing.
 use mathlib.Core.Path.{◌≡◌, ◌∙◌, ap}
-use Prim.Native.Nat.{◌*◌, ◌-◌, ◌≤◌}
 use native.Mathlib.Omega.{arith}
-use lib.ListN.{length}
-use borrow.Author.Rules.{rules}
-use Rattle.numbers.specs.Put.{Put}
-use Rattle.lines.specs.Text.{report_text}
-use Rattle.lines.specs.Results.{place_of, lines_in}
+use Rattle.lines.specs.Results.{place_of}
 use Rattle.lines.proofs.Lines.{no_lines, one-line-more, all_lines, place-first, place-next, line-fits}
 use Rattle.lines.proofs.put_lines.Goals as goal
 

@@ -2,7 +2,6 @@
 use mathlib.Core.Path.{◌∙◌}
 use native.Mathlib.Omega.{arith}
 use lib.ListN.{length-set}
-use borrow.Author.Rules.{rules}
 use Rattle.lines.specs.Text.{refused_text}
 use Rattle.numbers.proofs.Put.{put_byte, put_then}
 use Rattle.lines.proofs.put_refused.Goals as goal

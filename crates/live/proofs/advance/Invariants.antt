@@ -1,19 +1,13 @@
 -- `live::advance` meets its contract: what the live readings become, slot by slot, then those that begin. Assumes
 -- nothing.
-use mathlib.Core.Path.{◌≡◌, ◌∙◌}
 use mathlib.Core.Bool.{false}
-use Prim.Native.Nat.{ℕ, ◌+◌, ◌-◌, ◌*◌, ◌≤◌}
-use native.Mathlib.Omega.{arith}
+use Prim.Native.Nat.{◌-◌, ◌*◌, ◌≤◌}
 use Rattle.patterns.specs.Patterns.{most_variables}
 use Rattle.automaton.specs.Filtering.{collect}
-use Rattle.slots.specs.Slots.{slot_bytes, held_in, slot_at, slots_at}
+use Rattle.slots.specs.Slots.{slots_at}
 use Rattle.live.specs.Flags.{is_set}
 use Rattle.live.specs.Live.{extend_by}
 use Rattle.live.specs.Memory.{Added}
-use Rattle.live.proofs.Memory.{apart-part}
-use Rattle.live.proofs.Steps.{length-extend}
-use Rattle.live.proofs.Adding.{all_start, all-turn, added-step}
-use Rattle.live.proofs.Fits.{fit-kept}
 use Rattle.live.proofs.advance.Given as goal
 
 abbrev pub invariant-loop-k : goal.invariant-loop-k

@@ -1,16 +1,10 @@
 -- `live::begin` meets its contract: the readings that begin variable by variable, the lowest of those left first.
 -- Assumes nothing.
-use mathlib.Core.Path.{ap, ◌∙◌}
 use Prim.Native.Nat.{◌^◌, ◌<◌}
-use native.Mathlib.Omega.{arith}
-use lib.Pow.{pow_pos}
 use Rattle.patterns.specs.Patterns.{most_variables}
-use Rattle.firing.proofs.Joins.{weight-le}
 use Rattle.live.specs.Flags.{is_set}
 use Rattle.live.specs.Live.{begun_by}
-use Rattle.live.proofs.MaskInTurn.{bit_below}
-use Rattle.live.proofs.Steps.{begun-none, begun-lowest, length-begun}
-use Rattle.live.proofs.Adding.{Partly, partly-start, partly-turn, partly-all, partly-total}
+use Rattle.live.proofs.Adding.{Partly}
 use Rattle.live.proofs.begin.Given as goal
 
 abbrev pub invariant-loop-rest : goal.invariant-loop-rest

@@ -4,7 +4,6 @@ use mathlib.Core.Path.{sym, ◌∙◌}
 use Rattle.slots.specs.Slots.{held_in}
 use Rattle.live.specs.Live.{unbound}
 use Rattle.live.proofs.Adding.{added-first, added-none-first}
-use borrow.Author.Rules.{rules}
 use Rattle.live.proofs.begin_one.Goals as goal
 
 pub returns-then-leaves : goal.returns-then-leaves

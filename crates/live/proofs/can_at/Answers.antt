@@ -4,7 +4,6 @@ use native.Mathlib.Nat.{lt_of_lt_of_le}
 use native.Mathlib.Omega.{arith}
 use lib.Pow.{pow_mono}
 use Rattle.live.proofs.CanAt.{can-event, can-gap}
-use borrow.Author.Rules.{rules}
 use Rattle.live.proofs.can_at.Goals as goal
 
 pub returns-then-is_event : goal.returns-then-is_event

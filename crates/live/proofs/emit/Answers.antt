@@ -1,7 +1,6 @@
 -- `live::emit` meets its contract: one reading more in the next slot, or only counted. Assumes nothing.
 use native.Mathlib.Omega.{arith}
 use Rattle.live.proofs.Memory.{added-over, added-put}
-use borrow.Author.Rules.{rules}
 use Rattle.live.proofs.emit.Goals as goal
 
 pub returns-then-limit-total : goal.returns-then-limit-total

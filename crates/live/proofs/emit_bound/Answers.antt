@@ -7,7 +7,6 @@ use lib.ListN.{length}
 use Rattle.slots.specs.Slots.{slot_bytes}
 use Rattle.live.proofs.TooLong.{grow-short}
 use Rattle.live.proofs.Memory.{added-over, added-bound, put-part}
-use borrow.Author.Rules.{rules}
 use Rattle.live.proofs.emit_bound.Goals as goal
 
 pub returns-then-limit-total : goal.returns-then-limit-total

@@ -6,7 +6,6 @@ use Rattle.slots.specs.Slots.{count_in, slot_at}
 use Rattle.live.proofs.Parts.{part-slot, length-slot_at}
 use Rattle.live.proofs.TooLong.{grow-long}
 use Rattle.live.proofs.Memory.{added-long}
-use borrow.Author.Rules.{rules}
 use Rattle.live.proofs.emit_grown.Goals as goal
 
 pub emit_bound-requires : goal.emit_bound-requires

@@ -8,7 +8,6 @@ use Rattle.live.proofs.TooLong.{slot-short}
 use Rattle.live.proofs.Memory.{part-kept}
 use Rattle.live.proofs.Steps.{length-fired}
 use Rattle.live.proofs.Adding.{added-extended, added-kept}
-use borrow.Author.Rules.{rules}
 use Rattle.live.proofs.extend_one.Goals as goal
 
 pub returns-then-total-now : goal.returns-then-total-now

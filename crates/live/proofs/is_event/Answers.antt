@@ -4,7 +4,6 @@ use Prim.Native.Nat.{ℕ}
 use lib.Dec.{eqb}
 use Rattle.records.specs.Records.{event_kind}
 use Rattle.live.specs.Live.{is_event_by}
-use borrow.Author.Rules.{rules}
 use Rattle.live.proofs.is_event.Goals as goal
 
 pub returns : goal.returns

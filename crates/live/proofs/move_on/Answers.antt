@@ -2,7 +2,6 @@
 -- Assumes nothing.
 use native.Mathlib.Omega.{arith}
 use Rattle.live.proofs.Halves.{half_in, other-in, start-in, halves-apart, few-stand, moved-idle, moved-over}
-use borrow.Author.Rules.{rules}
 use Rattle.live.proofs.move_on.Goals as goal
 
 pub returns-then-can-eq0 : goal.returns-then-can-eq0

@@ -1,19 +1,11 @@
 -- `live::spread` meets its contract: the extensions variable by variable, the lowest of those left first.
 -- Assumes nothing.
-use mathlib.Core.Path.{ap, ◌∙◌}
-use Prim.Native.Nat.{ℕ, ◌^◌, ◌<◌}
-use native.Mathlib.Omega.{arith}
-use lib.Pow.{pow_pos}
+use Prim.Native.Nat.{◌^◌, ◌<◌}
 use Rattle.patterns.specs.Patterns.{most_variables}
-use Rattle.slots.specs.Slots.{Held, held_in, slot_at}
-use Rattle.firing.proofs.Joins.{weight-le}
+use Rattle.slots.specs.Slots.{held_in, slot_at}
 use Rattle.live.specs.Flags.{is_set}
 use Rattle.live.specs.Live.{fired_by}
-use Rattle.live.proofs.Memory.{slot_kept}
-use Rattle.live.proofs.MaskInTurn.{bit_below}
-use Rattle.live.proofs.Steps.{fired-none, fired-lowest, length-fired}
-use Rattle.live.proofs.Adding.{Partly, partly-start, partly-turn, partly-all, partly-total}
-use Rattle.live.proofs.Fits.{fit-kept}
+use Rattle.live.proofs.Adding.{Partly}
 use Rattle.live.proofs.spread.Given as goal
 
 abbrev pub invariant-loop-rest : goal.invariant-loop-rest

@@ -1,10 +1,8 @@
 -- `live::try_one` meets its contract: one extension where the variable leaves the state and the reading agrees, none
 -- otherwise. Assumes nothing.
-use borrow.Author.Tests.{not-true, not-false}
 use Rattle.slots.specs.Slots.{held_in, slot_at}
 use Rattle.live.proofs.Parts.{part-slot}
 use Rattle.live.proofs.Adding.{leaves-held, agrees-held, added-one, added-stays, added-fails}
-use borrow.Author.Rules.{rules}
 use Rattle.live.proofs.try_one.Goals as goal
 
 pub returns-then-not-leaves : goal.returns-then-not-leaves

@@ -7,7 +7,6 @@ use Rattle.patterns.specs.Patterns.{variable_count, variable_broken, condition_w
 use Rattle.patterns.specs.Checked.{pattern_up_to, pattern_of, first_bad_variable, first_bad_condition}
 use Rattle.patterns.proofs.Answers.{header-in-order, whole_length, answer-short, answer-header, answer-length}
 use Rattle.patterns.proofs.Answers.{answer-variable, answer-condition, answer-pattern}
-use borrow.Author.Rules.{rules}
 use Rattle.patterns.proofs.check_pattern.Goals as goal
 
 pub returns-then-pattern-lt-HEADER_BYTES : goal.returns-then-pattern-lt-HEADER_BYTES

@@ -1,6 +1,5 @@
 -- `patterns::compare` tests whether the order of two naturals meets an operator. Assumes nothing.
 use mathlib.Core.Path.{◌∙◌, ap}
-use borrow.Author.Rules.{rules}
 use Rattle.patterns.specs.Comparison.{meets}
 use Rattle.patterns.proofs.Comparison.{order-bound}
 use Rattle.patterns.proofs.compare.Goals as goal

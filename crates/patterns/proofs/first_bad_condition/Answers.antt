@@ -3,7 +3,6 @@ use borrow.Author.Rules.{rules}
 use borrow.Author.Count.{below_more}
 use mathlib.Core.Path.{◌≡◌, sym}
 use mathlib.Core.Bool.{true, false}
-use Prim.Native.Nat.{ℕ, ◌-◌, ◌≤◌, ◌<◌}
 use native.Mathlib.Omega.{arith}
 use Rattle.numbers.proofs.First.{first-at, first-none}
 use Rattle.patterns.specs.Patterns.{variable_count, condition_word, condition_broken}

@@ -1,11 +1,7 @@
 -- `patterns::first_bad_condition` meets its contract. Assumes nothing.
-use borrow.Author.Rules.{rules}
-use borrow.Author.Count.{below_more}
-use mathlib.Core.Path.{◌≡◌, sym}
-use mathlib.Core.Bool.{true, false}
+use mathlib.Core.Path.{◌≡◌}
+use mathlib.Core.Bool.{false}
 use Prim.Native.Nat.{ℕ, ◌-◌, ◌≤◌, ◌<◌}
-use native.Mathlib.Omega.{arith}
-use Rattle.numbers.proofs.First.{first-at, first-none}
 use Rattle.patterns.specs.Patterns.{variable_count, condition_word, condition_broken}
 use Rattle.patterns.proofs.first_bad_condition.Given as goal
 

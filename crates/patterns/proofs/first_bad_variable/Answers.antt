@@ -1,9 +1,7 @@
 -- `patterns::first_bad_variable` meets its contract. Assumes nothing.
 use borrow.Author.Rules.{rules}
 use borrow.Author.Count.{below_more}
-use mathlib.Core.Path.{◌≡◌, sym}
-use mathlib.Core.Bool.{false}
-use Prim.Native.Nat.{ℕ, ◌-◌, ◌≤◌, ◌<◌}
+use mathlib.Core.Path.{sym}
 use native.Mathlib.Omega.{arith}
 use Rattle.numbers.proofs.First.{first-at, first-none}
 use Rattle.patterns.specs.Patterns.{variable_broken}

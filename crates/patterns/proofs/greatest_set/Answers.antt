@@ -4,7 +4,6 @@ use Prim.Native.Nat.{ℕ, ◌+◌}
 use native.Mathlib.Omega.{arith}
 use borrow.Author.Tests.{eq-eqb, ne_eqb}
 use Rattle.patterns.specs.Patterns.{set_number, greatest_set}
-use borrow.Author.Rules.{rules}
 use Rattle.patterns.proofs.greatest_set.Goals as goal
 
 pub returns-then-v-eq0 : goal.returns-then-v-eq0

@@ -1,6 +1,5 @@
 -- `patterns::group_flag` meets its contract. Assumes nothing.
 use Rattle.patterns.specs.Patterns.{group_flag}
-use borrow.Author.Rules.{rules}
 use Rattle.patterns.proofs.group_flag.Goals as goal
 
 pub returns : goal.returns

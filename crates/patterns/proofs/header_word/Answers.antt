@@ -1,6 +1,5 @@
 -- `patterns::header_word` meets its contract. Assumes nothing.
 use Rattle.patterns.specs.Patterns.{header}
-use borrow.Author.Rules.{rules}
 use Rattle.patterns.proofs.header_word.Goals as goal
 
 pub returns : goal.returns

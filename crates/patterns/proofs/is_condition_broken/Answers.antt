@@ -1,7 +1,6 @@
 -- `patterns::is_condition_broken` meets its contract. Assumes nothing.
 use borrow.Author.Tests.{eq-eqb, ne_eqb, le-leb, lt-leb, lt-ltb, le-ltb}
 use Rattle.patterns.specs.Patterns.{condition_broken, condition_zero}
-use borrow.Author.Rules.{rules}
 use Rattle.patterns.proofs.is_condition_broken.Goals as goal
 
 pub returns-then-n-k : goal.returns-then-n-k

@@ -1,7 +1,6 @@
 -- `patterns::is_header_broken` meets its contract. Assumes nothing.
 use borrow.Author.Tests.{eq-eqb, ne_eqb, lt-ltb, le-ltb}
 use Rattle.patterns.specs.Patterns.{header_broken}
-use borrow.Author.Rules.{rules}
 use Rattle.patterns.proofs.is_header_broken.Goals as goal
 
 pub returns-then-edition-ne-EDITION : goal.returns-then-edition-ne-EDITION

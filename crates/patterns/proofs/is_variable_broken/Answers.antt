@@ -8,7 +8,6 @@ use native.Mathlib.Omega.{arith}
 use lib.Dec.{eqb}
 use lib.ListN.{get_or}
 use Rattle.patterns.specs.Patterns.{header_bytes, members, variable_zero, variable_broken}
-use borrow.Author.Rules.{rules}
 use Rattle.patterns.proofs.is_variable_broken.Goals as goal
 
 below : (x : ℕ) → x % 8 ≡ x / 1 % 8

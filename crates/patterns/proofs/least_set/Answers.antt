@@ -1,7 +1,6 @@
 -- `patterns::least_set` meets its contract. Assumes nothing.
 use borrow.Author.Tests.{eq-eqb, ne_eqb}
 use Rattle.patterns.specs.Patterns.{least_set}
-use borrow.Author.Rules.{rules}
 use Rattle.patterns.proofs.least_set.Goals as goal
 
 pub returns-then-v-eq0 : goal.returns-then-v-eq0

@@ -2,10 +2,10 @@
 use Rattle.numbers.proofs.Count.{count_none, count-more, one_if-bound}
 use borrow.Author.Rules.{rules}
 use mathlib.Core.Path.{◌≡◌, ◌∙◌, sym, ap}
-use Prim.Native.Nat.{ℕ, ◌-◌, ◌≤◌}
+use Prim.Native.Nat.{ℕ}
 use native.Mathlib.Omega.{arith}
 use lib.Dec.{eqb}
-use Rattle.numbers.specs.Numbers.{count, one_if}
+use Rattle.numbers.specs.Numbers.{one_if}
 use Rattle.patterns.specs.Patterns.{members, set_number}
 use Rattle.patterns.proofs.members_of.Goals as goal
 

@@ -1,12 +1,7 @@
 -- `patterns::members_of` meets its contract. Assumes nothing.
-use Rattle.numbers.proofs.Count.{count_none, count-more, one_if-bound}
-use borrow.Author.Rules.{rules}
-use mathlib.Core.Path.{◌≡◌, ◌∙◌, sym, ap}
-use Prim.Native.Nat.{ℕ, ◌-◌, ◌≤◌}
-use native.Mathlib.Omega.{arith}
-use lib.Dec.{eqb}
-use Rattle.numbers.specs.Numbers.{count, one_if}
-use Rattle.patterns.specs.Patterns.{members, set_number}
+use mathlib.Core.Path.{◌≡◌}
+use Prim.Native.Nat.{◌-◌, ◌≤◌}
+use Rattle.patterns.specs.Patterns.{members}
 use Rattle.patterns.proofs.members_of.Given as goal
 
 abbrev pub invariant-loop-u : goal.invariant-loop-u

@@ -1,6 +1,5 @@
 -- `patterns::order` gives the order of two naturals. Assumes nothing.
 use native.Mathlib.Omega.{arith}
-use borrow.Author.Rules.{rules}
 use lib.IntN.{pos}
 use Rattle.patterns.proofs.Comparison.{order-counted, order-bound}
 use Rattle.patterns.proofs.order.Goals as goal

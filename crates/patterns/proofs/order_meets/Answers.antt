@@ -1,6 +1,5 @@
 -- `patterns::order_meets` reads in the table whether an order meets an operator: its rule is proved over the whole
 -- table. Assumes nothing.
-use borrow.Author.Rules.{rules}
 use Rattle.patterns.proofs.Comparison.{operators-rule}
 use Rattle.patterns.proofs.order_meets.Goals as goal
 

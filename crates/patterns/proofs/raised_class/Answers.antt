@@ -1,7 +1,6 @@
 -- `patterns::raised_class` gives the class of an event type, raised by 2^31. Assumes nothing.
 use mathlib.Core.Path.{ap}
 use Prim.Native.Nat.{ℕ, ◌+◌, ◌^◌}
-use borrow.Author.Rules.{rules}
 use Rattle.patterns.specs.Comparison.{raise}
 use Rattle.patterns.proofs.raised_class.Goals as goal
 

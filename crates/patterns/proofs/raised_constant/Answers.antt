@@ -1,6 +1,5 @@
 -- `patterns::raised_constant` gives a condition's constant, signed beside amount, raised by 2^31. Assumes nothing.
 use mathlib.Core.Path.{◌∙◌, sym, ap}
-use borrow.Author.Rules.{rules}
 use Rattle.patterns.specs.Comparison.{raise}
 use Rattle.patterns.proofs.Comparison.{constant-signed, constant-unsigned}
 use Rattle.patterns.proofs.raised_constant.Goals as goal

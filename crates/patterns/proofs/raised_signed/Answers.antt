@@ -1,5 +1,4 @@
 -- `patterns::raised_signed` gives 32 bits, read as two's complement, raised by 2^31. Assumes nothing.
-use borrow.Author.Rules.{rules}
 use Rattle.patterns.proofs.Comparison.{raise-signed}
 use Rattle.patterns.proofs.raised_signed.Goals as goal
 

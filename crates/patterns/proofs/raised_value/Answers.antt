@@ -1,7 +1,6 @@
 -- `patterns::raised_value` gives an attribute of a record, raised by 2^31. Assumes nothing.
 use mathlib.Core.Path.{◌∙◌, ap}
 use Prim.Native.Nat.{ℕ, ◌+◌, ◌^◌}
-use borrow.Author.Rules.{rules}
 use borrow.Author.Tests.{eq-eqb, ne_eqb}
 use lib.IntN.{pos}
 use Rattle.records.specs.Records.{class_of}

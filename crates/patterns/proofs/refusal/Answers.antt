@@ -1,5 +1,4 @@
 -- `patterns::refusal` meets its contract. Assumes nothing.
-use borrow.Author.Rules.{rules}
 use Rattle.patterns.proofs.refusal.Goals as goal
 
 pub returns : goal.returns

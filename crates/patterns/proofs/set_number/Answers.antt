@@ -1,6 +1,5 @@
 -- `patterns::set_number` meets its contract. Assumes nothing.
 use Rattle.patterns.specs.Patterns.{set_number}
-use borrow.Author.Rules.{rules}
 use Rattle.patterns.proofs.set_number.Goals as goal
 
 pub returns : goal.returns

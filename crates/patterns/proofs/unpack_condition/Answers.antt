@@ -4,7 +4,6 @@ use Prim.Native.Nat.{◌/◌, ◌%◌}
 use native.Mathlib.Omega.{arith}
 use Rattle.numbers.specs.Numbers.{field}
 use Rattle.patterns.specs.Patterns.{condition_of}
-use borrow.Author.Rules.{rules}
 use Rattle.patterns.proofs.unpack_condition.Goals as goal
 
 pub returns : goal.returns

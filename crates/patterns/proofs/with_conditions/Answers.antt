@@ -1,9 +1,9 @@
 -- `patterns::with_conditions` meets its contract. Assumes nothing.
 use borrow.Author.Rules.{rules}
 use mathlib.Core.Path.{◌≡◌, ◌∙◌, ap}
-use Prim.Native.Nat.{ℕ, ◌-◌, ◌≤◌}
+use Prim.Native.Nat.{ℕ}
 use native.Mathlib.Omega.{arith}
-use Rattle.patterns.specs.Patterns.{most_conditions, condition_of, condition_word}
+use Rattle.patterns.specs.Patterns.{condition_of, condition_word}
 use Rattle.patterns.specs.Checked.{pattern_up_to}
 use Rattle.patterns.proofs.Reading.{condition-read}
 use Rattle.patterns.proofs.with_conditions.Goals as goal

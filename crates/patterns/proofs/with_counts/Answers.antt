@@ -4,7 +4,6 @@ use Rattle.patterns.specs.Patterns.{duration}
 use Rattle.patterns.proofs.Reading.{counts-read}
 use Prim.Native.Nat.{◌/◌, ◌%◌}
 use native.Mathlib.Omega.{arith}
-use borrow.Author.Rules.{rules}
 use Rattle.patterns.proofs.with_counts.Goals as goal
 
 pub returns : goal.returns

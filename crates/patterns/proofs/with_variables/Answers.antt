@@ -1,9 +1,8 @@
 -- `patterns::with_variables` meets its contract. Assumes nothing.
 use borrow.Author.Rules.{rules}
 use mathlib.Core.Path.{◌≡◌, ◌∙◌, ap}
-use Prim.Native.Nat.{ℕ, ◌-◌, ◌≤◌}
+use Prim.Native.Nat.{ℕ}
 use native.Mathlib.Omega.{arith}
-use Rattle.patterns.specs.Patterns.{most_variables}
 use Rattle.patterns.specs.Checked.{pattern_up_to}
 use Rattle.patterns.proofs.Reading.{variable-read, sets-room, groups-room}
 use Rattle.patterns.proofs.with_variables.Goals as goal

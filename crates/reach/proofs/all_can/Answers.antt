@@ -1,13 +1,9 @@
 -- `reach::all_can` meets its contract. The loop's invariant: the records passed are settled. Assumes nothing.
 use native.Mathlib.Omega.{arith}
-use mathlib.Core.Path.{◌≡◌, refl, ◌∙◌}
-use Prim.Native.Nat.{ℕ, ◌-◌, ◌≤◌, ◌<◌}
-use lib.ListN.{length, get_or, length-set}
+use mathlib.Core.Path.{refl, ◌∙◌}
+use lib.ListN.{length-set}
 use lib.Pow.{pow_mono}
-use Rattle.records.specs.Records.{record_count}
-use Rattle.records.specs.Blocks.{most_records}
 use Rattle.patterns.specs.Patterns.{most_variables}
-use Rattle.firing.specs.Firing.{can_by}
 use Rattle.reach.proofs.Masks.{cans-more}
 use borrow.Author.Rules.{rules}
 use Rattle.reach.proofs.all_can.Goals as goal

@@ -1,19 +1,10 @@
 -- `reach::firing_of` meets its contract. The loop's invariant: what is found so far and what the variables left will
 -- give make the whole. Assumes nothing.
-use native.Mathlib.Nat.{zero-mul}
-use native.Mathlib.Omega.{arith}
-use mathlib.Core.Path.{◌≡◌, sym, ap, ◌∙◌}
-use mathlib.Core.Bool.{Bool, ◌&&◌, and-true, and-false}
-use Prim.Native.Nat.{ℕ, ◌+◌, ◌*◌, ◌^◌, ◌<◌}
-use borrow.Author.Tests.{not-true, not-false}
-use Rattle.numbers.specs.Numbers.{one_if}
+use mathlib.Core.Path.{◌≡◌}
+use Prim.Native.Nat.{◌+◌, ◌^◌, ◌<◌}
 use Rattle.patterns.specs.Patterns.{most_variables}
 use Rattle.slots.specs.Slots.{held_in}
-use Rattle.firing.specs.Firing.{later_by}
 use Rattle.reach.specs.Readings.{agreeing_by}
-use Rattle.reach.proofs.MaskInTurn.{low_bits, rest-less}
-use Rattle.reach.proofs.Masks.{agreeing-none, agreeing-bound, agreeing-lowest}
-use borrow.Author.Rules.{rules}
 use Rattle.reach.proofs.firing_of.Given as goal
 
 abbrev pub invariant-loop-rest : goal.invariant-loop-rest

@@ -1,8 +1,6 @@
 -- `reach::next_can` meets its contract: at no record before the one that it gives can one of the variables fire.
 -- Assumes nothing.
 use native.Mathlib.Omega.{arith}
-use Prim.Native.Nat.{ℕ, ◌-◌, ◌≤◌, ◌<◌}
-use mathlib.Core.Path.{◌≡◌}
 use lib.Bits.{bit_and}
 use lib.ListN.{get_or}
 use Rattle.reach.proofs.Masks.{passed-more}

@@ -1,11 +1,10 @@
 -- `records::check_block` meets its contract. Assumes nothing.
 use borrow.Author.Rules.{rules}
-use mathlib.Core.Path.{◌≡◌, ◌∙◌, refl, sym, ap}
-use Prim.Native.Nat.{ℕ, ◌-◌, ◌≤◌, ◌<◌}
+use mathlib.Core.Path.{◌∙◌, refl, sym, ap}
+use Prim.Native.Nat.{ℕ}
 use native.Mathlib.Omega.{arith}
 use Rattle.numbers.proofs.Cases.{by_order}
-use Rattle.records.specs.Records.{record_count}
-use Rattle.records.specs.Blocks.{record_refusal, refused}
+use Rattle.records.specs.Blocks.{refused}
 use Rattle.records.proofs.Blocks.{few-of, answer-misfit, answer-bad, answer-good}
 use Rattle.records.proofs.check_block.Goals as goal
 

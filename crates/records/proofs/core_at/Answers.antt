@@ -3,7 +3,6 @@ use mathlib.Core.Path.{◌≡◌}
 use Prim.Native.Nat.{◌/◌, ◌%◌}
 use native.Mathlib.Omega.{arith}
 use Rattle.records.specs.Records.{record_at}
-use borrow.Author.Rules.{rules}
 use Rattle.records.proofs.core_at.Goals as goal
 
 pub returns : goal.returns

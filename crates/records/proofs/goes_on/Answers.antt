@@ -1,6 +1,5 @@
 -- `records::goes_on` meets its contract. Assumes nothing.
 use mathlib.Core.Path.{◌∙◌, sym}
-use borrow.Author.Rules.{rules}
 use Rattle.records.proofs.Runs.{not_on, on-if}
 use Rattle.records.proofs.goes_on.Goals as goal
 

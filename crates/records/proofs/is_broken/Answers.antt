@@ -4,7 +4,6 @@ use native.Mathlib.Omega.{arith}
 use Rattle.records.specs.Records.{record_at}
 use Rattle.records.specs.Blocks.{gap_broken}
 use Rattle.records.proofs.Blocks.{broken-kind, broken-event, broken-gap}
-use borrow.Author.Rules.{rules}
 use Rattle.records.proofs.is_broken.Goals as goal
 
 pub returns-then-kind-gt-GAP : goal.returns-then-kind-gt-GAP

@@ -7,7 +7,6 @@ use borrow.Author.Tests.{eq-eqb, ne_eqb}
 use lib.Dec.{eqb}
 use Rattle.records.specs.Records.{record_at, gap_kind}
 use Rattle.records.proofs.Blocks.{placed-later, misplaced-below, misplaced-same}
-use borrow.Author.Rules.{rules}
 use Rattle.records.proofs.is_misplaced.Goals as goal
 
 pub returns-then-before-time : goal.returns-then-before-time

@@ -5,7 +5,6 @@ use native.Mathlib.Omega.{arith}
 use Rattle.records.specs.Records.{record_at}
 use Rattle.records.specs.Blocks.{broken}
 use Rattle.records.proofs.Blocks.{refusal-6, refusal-7, refusal-none, late-first, late-at}
-use borrow.Author.Rules.{rules}
 use Rattle.records.proofs.refusal_of.Goals as goal
 
 pub returns-then-is_broken : goal.returns-then-is_broken

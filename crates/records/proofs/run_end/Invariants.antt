@@ -1,13 +1,8 @@
 -- `records::run_end` meets its contract. Assumes nothing.
-use mathlib.Core.Path.{◌≡◌, sym}
+use mathlib.Core.Path.{◌≡◌}
 use Prim.Native.Nat.{ℕ, ◌-◌, ◌≤◌, ◌<◌}
-use native.Mathlib.Omega.{arith}
-use borrow.Author.Rules.{rules}
-use Rattle.numbers.proofs.Cases.{not-not}
 use Rattle.records.specs.Blocks.{record_refusal}
 use Rattle.records.specs.Runs.{Ready}
-use Rattle.records.proofs.Runs.{ready, ready-event}
-use Rattle.records.proofs.Blocks.{run_more}
 use Rattle.records.proofs.run_end.Given as goal
 
 abbrev pub invariant-loop-at : goal.invariant-loop-at

@@ -1,6 +1,5 @@
 -- `records::slot_at` meets its contract. Assumes nothing.
 use Rattle.records.specs.Records.{record_at}
-use borrow.Author.Rules.{rules}
 use Rattle.records.proofs.slot_at.Goals as goal
 
 pub returns : goal.returns

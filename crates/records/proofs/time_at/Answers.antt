@@ -1,7 +1,6 @@
 -- `records::time_at` meets its contract. Assumes nothing.
 use Rattle.records.specs.Records.{record_at}
 use Rattle.numbers.proofs.Numbers.{number-5}
-use borrow.Author.Rules.{rules}
 use Rattle.records.proofs.time_at.Goals as goal
 
 pub returns : goal.returns

@@ -1,6 +1,5 @@
 -- `records::type_at` meets its contract. Assumes nothing.
 use Rattle.records.specs.Records.{record_at}
-use borrow.Author.Rules.{rules}
 use Rattle.records.proofs.type_at.Goals as goal
 
 pub returns : goal.returns

@@ -1,6 +1,5 @@
 -- `records::unpack` meets its contract, field by field. Assumes nothing.
 use Rattle.records.specs.Records.{record_at}
-use borrow.Author.Rules.{rules}
 use Rattle.records.proofs.unpack.Goals as goal
 
 pub returns : goal.returns

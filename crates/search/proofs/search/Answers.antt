@@ -1,9 +1,7 @@
 -- `search::search` meets its contract: each check refuses as the promise says, and what can match the forward pass
 -- answers. Assumes nothing.
 use mathlib.Core.Path.{◌∙◌, sym, ap, subst}
-use borrow.Author.Rules.{rules}
 use lib.ListN.{length}
-use Rattle.numbers.proofs.Cases.{not-not, not-true}
 use Rattle.records.specs.declared.Answer.{Answer}
 use Rattle.index.specs.Upto.{Decided}
 use Rattle.index.proofs.Fields.{good_length}

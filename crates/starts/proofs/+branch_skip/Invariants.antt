@@ -1,19 +1,12 @@
 -- `starts::skip` and `starts::branch` meet their contracts, which call each other: records left fall from call to call,
 -- and variables left from turn to turn of branch's loop. Assumes nothing.
-use borrow.Author.Rules.{rules}
-use native.Mathlib.Omega.{arith}
-use Prim.Native.Nat.{ℕ, ◌<◌, ◌+◌, ◌-◌, ◌*◌}
-use mathlib.Core.Path.{◌≡◌, refl, ap, ◌∙◌}
+use Prim.Native.Nat.{ℕ, ◌-◌, ◌*◌}
+use mathlib.Core.Path.{◌≡◌}
 use mathlib.Core.Bool.{true}
 use lib.ListN.{length}
 use Rattle.numbers.specs.Bits.{bit}
-use Rattle.slots.specs.Slots.{count_in}
 use Rattle.starts.specs.Sinks.{Sink, sink_of}
 use Rattle.starts.specs.Skips.{Firing, Branched}
-use Rattle.reach.proofs.MaskInTurn.{rest-less}
-use Rattle.starts.proofs.Skips.{branch-done, firing-taking, branch-takes, rest-firing, rest-within}
-use Rattle.starts.proofs.Skips.{loaded, grown-ready, grown-closes, skip-closes, skip-notes}
-use Rattle.starts.proofs.Skips.{next-branching, skip-given-up, skip-settled, skip-branches}
 use Rattle.starts.proofs.+branch_skip.Given as goal
 
 -- branch goes on to skip at its own record, skip to branch at a later one

@@ -6,7 +6,6 @@ use Rattle.rule.proofs.SkipBranch.{close-full, close-part}
 use Rattle.slots.specs.Slots.{held_in}
 use Rattle.starts.specs.Sinks.{Sink, sink_of, emit, emits}
 use Rattle.reach.proofs.Readings.{full_is}
-use borrow.Author.Rules.{rules}
 use Rattle.starts.proofs.close.Goals as goal
 
 pub returns-then-is_full : goal.returns-then-is_full

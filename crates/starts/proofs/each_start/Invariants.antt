@@ -1,21 +1,13 @@
 -- `starts::each_start` meets its contract: one start after another, none where nothing fires or from a gap, else each
 -- firing variable in turn. Assumes nothing.
-use native.Mathlib.Omega.{arith}
-use borrow.Author.Rules.{rules}
-use mathlib.Core.Path.{◌≡◌, refl, sym, ap, subst, ◌∙◌}
-use Prim.Native.Nat.{ℕ, ◌+◌, ◌-◌, ◌≤◌, ◌<◌}
-use lib.Bits.{bit_and}
-use lib.ListN.{length, get_or}
-use Rattle.numbers.proofs.Cases.{by_order}
+use mathlib.Core.Path.{◌≡◌}
+use Prim.Native.Nat.{◌-◌, ◌≤◌, ◌<◌}
+use lib.ListN.{length}
 use Rattle.records.specs.Records.{record_count}
-use Rattle.starts.specs.declared.Counts.{Counts}
 use Rattle.starts.specs.Sinks.{sink_of, none_yet}
 use Rattle.closings.specs.Closings.{OpenTo}
 use Rattle.starts.specs.Skips.{give_up}
-use Rattle.reach.proofs.Masks.{read-bound, first_read}
-use Rattle.closings.proofs.Windows.{open_none, open-later}
-use Rattle.starts.proofs.Starts.{gap_of, started-gap, start-branching, started-settled, started-branch, Left}
-use Rattle.starts.proofs.Starts.{left-all, left-more, left-begun, left-none, left_passed, open-passed}
+use Rattle.starts.proofs.Starts.{Left}
 use Rattle.starts.proofs.each_start.Given as goal
 
 abbrev pub invariant-loop-i : goal.invariant-loop-i

@@ -1,7 +1,6 @@
 -- `starts::finish` meets its contract: 9, then 11, else what was counted. Assumes nothing.
 use mathlib.Core.Path.{refl, ◌∙◌}
 use Rattle.starts.proofs.Ends.{finish-long, finish-full, finish-well}
-use borrow.Author.Rules.{rules}
 use Rattle.starts.proofs.finish.Goals as goal
 
 pub returns-then-counts-lt-NO_RECORD : goal.returns-then-counts-lt-NO_RECORD

@@ -4,7 +4,6 @@ use Prim.Native.Nat.{ℕ, ◌-◌}
 use mathlib.Core.Path.{ap, ◌∙◌}
 use lib.Pow.{pow_pos}
 use Rattle.numbers.specs.Bits.{within}
-use borrow.Author.Rules.{rules}
 use Rattle.starts.proofs.is_full.Goals as goal
 
 pub overflow_sub-weight : goal.overflow_sub-weight

@@ -2,7 +2,6 @@
 use mathlib.Core.Path.{sym}
 use mathlib.Core.Bool.{true≢false}
 use Rattle.starts.proofs.Cuts.{not-true}
-use borrow.Author.Rules.{rules}
 use Rattle.starts.proofs.is_settled.Goals as goal
 
 pub returns-then-may_report : goal.returns-then-may_report

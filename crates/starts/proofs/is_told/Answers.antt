@@ -1,7 +1,6 @@
 -- `starts::is_told` meets its contract: the three tests one after another. Assumes nothing.
 use mathlib.Core.Path.{sym}
 use mathlib.Core.Bool.{true≢false}
-use borrow.Author.Rules.{rules}
 use Rattle.starts.proofs.is_told.Goals as goal
 
 pub returns-then-counts-room : goal.returns-then-counts-room

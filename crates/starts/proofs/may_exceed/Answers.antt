@@ -1,8 +1,7 @@
 -- `starts::may_exceed` meets its contract: by the block as a whole, by places, or by what can still be bound. Assumes
 -- nothing.
 use mathlib.Core.Bool.{true≢false}
-use Rattle.starts.proofs.Cuts.{not-true, above-none, above_floor}
-use borrow.Author.Rules.{rules}
+use Rattle.starts.proofs.Cuts.{above-none, above_floor}
 use Rattle.starts.proofs.may_exceed.Goals as goal
 
 pub returns-then-end-s : goal.returns-then-end-s

@@ -2,7 +2,6 @@
 -- full. Assumes nothing.
 use mathlib.Core.Bool.{true≢false}
 use Rattle.starts.specs.Skips.Mute.{decided, counted, silent}
-use borrow.Author.Rules.{rules}
 use Rattle.starts.proofs.may_report.Goals as goal
 
 pub returns-then-counts-lt-NO_RECORD : goal.returns-then-counts-lt-NO_RECORD

@@ -1,6 +1,5 @@
 -- `starts::measure` meets its promise, from the bytes. Assumes nothing.
 use Rattle.starts.proofs.Ends.{pattern-good, block-good, measure-pattern, measure-block, measure-answered}
-use borrow.Author.Rules.{rules}
 use Rattle.starts.proofs.measure.Goals as goal
 
 pub returns-then-checked-ne0 : goal.returns-then-checked-ne0

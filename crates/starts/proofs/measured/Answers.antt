@@ -1,6 +1,5 @@
 -- `starts::measured` meets its contract: 9, else the counts, capped. Assumes nothing.
 use Rattle.starts.proofs.Ends.{measured-long, measured-well}
-use borrow.Author.Rules.{rules}
 use Rattle.starts.proofs.measured.Goals as goal
 
 pub returns-then-counts-lt-NO_RECORD : goal.returns-then-counts-lt-NO_RECORD

@@ -17,7 +17,6 @@ use Rattle.starts.specs.declared.Counts.{Counts}
 use Rattle.starts.specs.Sinks.{sink_of, none_yet}
 use Rattle.starts.proofs.Same.{least-decides}
 use Rattle.starts.proofs.Ends.{never-fall}
-use borrow.Author.Rules.{rules}
 use Rattle.starts.proofs.pass.Goals as goal
 
 module _ (p : Pattern) (block plan : List ℕ) (good : InOrder p) (blocks : BlockInOrder block)

@@ -4,7 +4,6 @@ use mathlib.Core.Path.{ap, ◌∙◌}
 use Prim.Native.Nat.{ℕ, ◌+◌}
 use Rattle.starts.specs.Sinks.{sum}
 use Rattle.starts.proofs.Sinks.{reported, unreported}
-use borrow.Author.Rules.{rules}
 use Rattle.starts.proofs.report.Goals as goal
 
 pub returns-then-bindings-room : goal.returns-then-bindings-room

@@ -3,7 +3,6 @@ use native.Mathlib.Omega.{arith}
 use mathlib.Core.Path.{◌∙◌}
 use lib.ListN.{length}
 use Rattle.starts.proofs.Ends.{pattern-good, block-good, call-pattern, call-block, call-answered}
-use borrow.Author.Rules.{rules}
 use Rattle.starts.proofs.start_by_start.Goals as goal
 
 pub returns-then-checked-ne0 : goal.returns-then-checked-ne0

@@ -1,7 +1,6 @@
 -- `starts::sum` meets its contract: a sum that stops at the largest number of 64 bits. Assumes nothing.
 use native.Mathlib.Omega.{arith}
 use Rattle.starts.specs.Sinks.{sum}
-use borrow.Author.Rules.{rules}
 use Rattle.starts.proofs.sum.Goals as goal
 
 pub returns-then-a-b : goal.returns-then-a-b

@@ -1,6 +1,5 @@
 -- `states::find` meets its contract. Assumes nothing.
 use Prim.Native.Nat.{◌-◌, ◌≤◌}
-use borrow.Author.Rules.{rules}
 use Rattle.states.proofs.find.Given as goal
 
 abbrev pub invariant-loop-at : goal.invariant-loop-at

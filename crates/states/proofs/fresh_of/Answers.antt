@@ -1,7 +1,6 @@
 -- `states::fresh_of` meets its contract. Assumes nothing.
 use mathlib.Core.Path.{sym, ◌∙◌}
 use Rattle.states.proofs.Fresh.{fresh-same, fresh-other}
-use borrow.Author.Rules.{rules}
 use Rattle.states.proofs.fresh_of.Goals as goal
 
 pub returns-then-calm-leaving : goal.returns-then-calm-leaving

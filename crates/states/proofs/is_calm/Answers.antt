@@ -2,7 +2,6 @@
 use mathlib.Core.Path.{sym, ap, ◌∙◌}
 use mathlib.Core.Bool.{not}
 use Rattle.states.proofs.Fresh.{calm-not, calm-leaves}
-use borrow.Author.Rules.{rules}
 use Rattle.states.proofs.is_calm.Goals as goal
 
 pub returns-then-leaves : goal.returns-then-leaves

@@ -2,7 +2,6 @@
 use native.Mathlib.Omega.{arith}
 use mathlib.Core.Path.{sym, ◌∙◌}
 use Rattle.states.proofs.Fresh.{leaves-plain, leaves-fresh}
-use borrow.Author.Rules.{rules}
 use Rattle.states.proofs.leaves_from.Goals as goal
 
 pub returns-then-x-lt-FRESH : goal.returns-then-x-lt-FRESH

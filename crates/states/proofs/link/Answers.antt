@@ -1,12 +1,11 @@
 -- `states::link` meets its contract. The loop's invariant: the variables that are not left are linked. Assumes nothing.
 use native.Mathlib.Omega.{arith}
-use mathlib.Core.Path.{◌≡◌, sym, subst}
+use mathlib.Core.Path.{sym, subst}
 use Prim.Native.Nat.{ℕ, ◌<◌}
-use lib.ListN.{get_or, set}
+use lib.ListN.{set}
 use Rattle.reach.proofs.MaskInTurn.{rest-less}
-use Rattle.states.specs.States.{most_states, link_at, fresh_mark, state_of, PutFresh}
+use Rattle.states.specs.States.{most_states, link_at, fresh_mark, PutFresh}
 use Rattle.states.proofs.States.{Linking, linking-none, linking-more, linked-all, small-variable, small-state}
-use borrow.Author.Rules.{rules}
 use Rattle.states.proofs.link.Goals as goal
 
 pub loop-rest-init : goal.loop-rest-init

@@ -2,13 +2,12 @@
 -- Assumes nothing.
 use native.Mathlib.Omega.{arith}
 use mathlib.Core.Path.{◌≡◌, sym, subst}
-use Prim.Native.Nat.{ℕ, ◌-◌, ◌≤◌, ◌<◌, ◌^◌}
+use Prim.Native.Nat.{ℕ, ◌<◌, ◌^◌}
 use lib.ListN.{get_or}
 use Rattle.patterns.specs.Patterns.{most_variables}
-use Rattle.states.specs.States.{most_states, Listed}
+use Rattle.states.specs.States.{Listed}
 use Rattle.states.proofs.States.{listed-none, listed_more}
 use Rattle.states.proofs.Fresh.{leaves-bound}
-use borrow.Author.Rules.{rules}
 use Rattle.states.proofs.list_states.Goals as goal
 
 pub loop-at-init : goal.loop-at-init

@@ -1,14 +1,7 @@
 -- `states::list_states` meets its contract. The loop's invariant: the states before the place are linked.
 -- Assumes nothing.
-use native.Mathlib.Omega.{arith}
-use mathlib.Core.Path.{◌≡◌, sym, subst}
-use Prim.Native.Nat.{ℕ, ◌-◌, ◌≤◌, ◌<◌, ◌^◌}
-use lib.ListN.{get_or}
-use Rattle.patterns.specs.Patterns.{most_variables}
+use Prim.Native.Nat.{◌-◌, ◌≤◌}
 use Rattle.states.specs.States.{most_states, Listed}
-use Rattle.states.proofs.States.{listed-none, listed_more}
-use Rattle.states.proofs.Fresh.{leaves-bound}
-use borrow.Author.Rules.{rules}
 use Rattle.states.proofs.list_states.Given as goal
 
 abbrev pub invariant-loop-at : goal.invariant-loop-at

@@ -1,7 +1,6 @@
 -- `states::put` meets its contract. Assumes nothing.
 use native.Mathlib.Omega.{arith}
 use Rattle.states.proofs.States.{put-at, put-none}
-use borrow.Author.Rules.{rules}
 use Rattle.states.proofs.put.Goals as goal
 
 pub returns-then-at-eq-MOST_STATES : goal.returns-then-at-eq-MOST_STATES

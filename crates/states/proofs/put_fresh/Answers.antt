@@ -5,7 +5,6 @@ use Prim.Native.Nat.{ℕ, ◌+◌}
 use lib.ListN.{set}
 use Rattle.states.specs.States.{PutFresh}
 use Rattle.states.proofs.States.{fresh-none, fresh-alone, fresh-behind, fresh-there}
-use borrow.Author.Rules.{rules}
 use Rattle.states.proofs.put_fresh.Goals as goal
 
 pub returns-then-at-eq-MOST_STATES : goal.returns-then-at-eq-MOST_STATES

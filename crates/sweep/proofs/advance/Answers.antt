@@ -1,10 +1,8 @@
 -- `sweep::advance` meets its contract. The loop's invariant: the states passed have led on. Assumes nothing.
 use native.Mathlib.Omega.{arith}
 use mathlib.Core.Path.{◌≡◌, subst, ◌∙◌}
-use Prim.Native.Nat.{◌≤◌}
 use Rattle.sweep.specs.Starts.{Advanced}
 use Rattle.sweep.proofs.Advancing.{advanced-none, advanced-more}
-use borrow.Author.Rules.{rules}
 use Rattle.sweep.proofs.advance.Goals as goal
 
 pub loop-at-init : goal.loop-at-init

@@ -1,11 +1,6 @@
 -- `sweep::clear_row` meets its contract. The loop's invariant: the places passed are cleared. Assumes nothing.
-use native.Mathlib.Omega.{arith}
-use mathlib.Core.Path.{◌≡◌, refl, subst, ◌∙◌}
 use Prim.Native.Nat.{◌-◌, ◌≤◌}
-use borrow.Author.Tests.{not-true, not-false}
 use Rattle.sweep.specs.Starts.{row_places, RowCleared}
-use Rattle.sweep.proofs.Starts.{cleared-loose, cleared-none, cleared_more}
-use borrow.Author.Rules.{rules}
 use Rattle.sweep.proofs.clear_row.Given as goal
 
 abbrev pub invariant-loop-k : goal.invariant-loop-k

@@ -2,12 +2,10 @@
 -- Assumes nothing.
 use native.Mathlib.Omega.{arith}
 use mathlib.Core.Path.{◌≡◌, sym, subst, ◌∙◌}
-use Prim.Native.Nat.{ℕ, ◌+◌, ◌-◌, ◌≤◌, ◌<◌}
-use borrow.Author.Tests.{ltb-true, ltb-false, not-true, not-false}
+use Prim.Native.Nat.{ℕ, ◌+◌, ◌≤◌}
+use borrow.Author.Tests.{ltb-true, ltb-false}
 use Rattle.records.specs.Records.{record_at}
-use Rattle.sweep.specs.Floors.{Past}
 use Rattle.sweep.proofs.Windows.{past_more}
-use borrow.Author.Rules.{rules}
 use Rattle.sweep.proofs.first_open.Goals as goal
 
 pub loop-i-init : goal.loop-i-init

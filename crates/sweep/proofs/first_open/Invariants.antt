@@ -1,13 +1,7 @@
 -- `sweep::first_open` meets its contract. The loop's invariant: the windows of the records passed have not record j.
 -- Assumes nothing.
-use native.Mathlib.Omega.{arith}
-use mathlib.Core.Path.{◌≡◌, sym, subst, ◌∙◌}
-use Prim.Native.Nat.{ℕ, ◌+◌, ◌-◌, ◌≤◌, ◌<◌}
-use borrow.Author.Tests.{ltb-true, ltb-false, not-true, not-false}
-use Rattle.records.specs.Records.{record_at}
+use Prim.Native.Nat.{ℕ, ◌-◌, ◌≤◌, ◌<◌}
 use Rattle.sweep.specs.Floors.{Past}
-use Rattle.sweep.proofs.Windows.{past_more}
-use borrow.Author.Rules.{rules}
 use Rattle.sweep.proofs.first_open.Given as goal
 
 abbrev pub invariant-loop-i : goal.invariant-loop-i

@@ -6,7 +6,6 @@ use native.Mathlib.Numerals.{add-one}
 use lib.ListN.{get_or}
 use Rattle.states.specs.States.{fresh_mark}
 use Rattle.sweep.specs.Starts.FreshFolded.{calm, fresh}
-use borrow.Author.Rules.{rules}
 use Rattle.sweep.proofs.fold_fresh.Goals as goal
 
 pub returns-then-states-b-lt-FRESH : goal.returns-then-states-b-lt-FRESH

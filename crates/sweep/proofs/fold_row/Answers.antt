@@ -2,10 +2,8 @@
 -- Assumes nothing.
 use native.Mathlib.Omega.{arith}
 use mathlib.Core.Path.{◌≡◌, subst, ◌∙◌}
-use Prim.Native.Nat.{◌-◌, ◌≤◌}
 use Rattle.sweep.specs.Starts.{row_places, RowFolded}
 use Rattle.sweep.proofs.Settling.{folded-none, folded_more}
-use borrow.Author.Rules.{rules}
 use Rattle.sweep.proofs.fold_row.Goals as goal
 
 pub loop-k-init : goal.loop-k-init

@@ -1,11 +1,7 @@
 -- `sweep::fold_row` meets its contract. The loop's invariant: the counts of bindings passed are folded.
 -- Assumes nothing.
-use native.Mathlib.Omega.{arith}
-use mathlib.Core.Path.{◌≡◌, subst, ◌∙◌}
 use Prim.Native.Nat.{◌-◌, ◌≤◌}
 use Rattle.sweep.specs.Starts.{row_places, RowFolded}
-use Rattle.sweep.proofs.Settling.{folded-none, folded_more}
-use borrow.Author.Rules.{rules}
 use Rattle.sweep.proofs.fold_row.Given as goal
 
 abbrev pub invariant-loop-k : goal.invariant-loop-k

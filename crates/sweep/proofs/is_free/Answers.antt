@@ -2,11 +2,9 @@
 use native.Mathlib.Omega.{arith}
 use mathlib.Core.Path.{◌≡◌, sym, subst}
 use mathlib.Core.Bool.{true≢false}
-use Prim.Native.Nat.{ℕ, ◌-◌, ◌≤◌, ◌<◌}
+use Prim.Native.Nat.{ℕ}
 use Rattle.numbers.proofs.Cases.{by_order}
-use Rattle.patterns.specs.Patterns.{most_variables}
 use Rattle.plans.specs.Plan.{joins_in}
-use borrow.Author.Rules.{rules}
 use Rattle.sweep.proofs.is_free.Goals as goal
 
 pub loop-v-init : goal.loop-v-init

@@ -1,12 +1,8 @@
 -- `sweep::is_free` meets its contract. The loop's invariant: nothing joins the variables passed. Assumes nothing.
-use native.Mathlib.Omega.{arith}
-use mathlib.Core.Path.{◌≡◌, sym, subst}
-use mathlib.Core.Bool.{true≢false}
+use mathlib.Core.Path.{◌≡◌}
 use Prim.Native.Nat.{ℕ, ◌-◌, ◌≤◌, ◌<◌}
-use Rattle.numbers.proofs.Cases.{by_order}
 use Rattle.patterns.specs.Patterns.{most_variables}
 use Rattle.plans.specs.Plan.{joins_in}
-use borrow.Author.Rules.{rules}
 use Rattle.sweep.proofs.is_free.Given as goal
 
 abbrev pub invariant-loop-v : goal.invariant-loop-v

@@ -1,14 +1,8 @@
 -- `sweep::is_over` meets its contract. Assumes nothing.
 use native.Mathlib.Omega.{arith}
-use mathlib.Core.Path.{◌≡◌, sym}
+use mathlib.Core.Path.{sym}
 use mathlib.Core.Bool.{true≢false}
-use Prim.Native.Nat.{ℕ, ◌-◌, ◌≤◌, ◌<◌}
-use lib.Bits.{bit_and}
-use lib.ListN.{get_or}
-use Rattle.rule.specs.Promises.{most_bindings}
-use Rattle.sweep.specs.Starts.{place_of}
 use Rattle.sweep.proofs.Starts.{none_more}
-use borrow.Author.Rules.{rules}
 use Rattle.sweep.proofs.is_over.Goals as goal
 
 pub loop-at-init : goal.loop-at-init

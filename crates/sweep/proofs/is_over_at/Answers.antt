@@ -4,7 +4,6 @@ use mathlib.Core.Bool.{true≢false}
 use Prim.Native.Nat.{◌+◌}
 use lib.ListN.{set}
 use Rattle.sweep.specs.Starts.{IsOver}
-use borrow.Author.Rules.{rules}
 use Rattle.sweep.proofs.is_over_at.Goals as goal
 
 pub returns-then-is_over : goal.returns-then-is_over

@@ -1,10 +1,7 @@
 -- `sweep::late_ones` meets its contract. The loop's invariant: the places passed are copied. Assumes nothing.
 use native.Mathlib.Omega.{arith}
 use mathlib.Core.Path.{refl}
-use Prim.Native.Nat.{◌-◌, ◌≤◌}
-use Rattle.sweep.specs.Starts.{row_places}
-use Rattle.sweep.proofs.Starts.{Copied, copied_none, copied_more, copied_all}
-use borrow.Author.Rules.{rules}
+use Rattle.sweep.proofs.Starts.{copied_none, copied_more, copied_all}
 use Rattle.sweep.proofs.late_ones.Goals as goal
 
 pub loop-k-init : goal.loop-k-init

@@ -1,10 +1,7 @@
 -- `sweep::late_ones` meets its contract. The loop's invariant: the places passed are copied. Assumes nothing.
-use native.Mathlib.Omega.{arith}
-use mathlib.Core.Path.{refl}
 use Prim.Native.Nat.{◌-◌, ◌≤◌}
 use Rattle.sweep.specs.Starts.{row_places}
-use Rattle.sweep.proofs.Starts.{Copied, copied_none, copied_more, copied_all}
-use borrow.Author.Rules.{rules}
+use Rattle.sweep.proofs.Starts.{Copied}
 use Rattle.sweep.proofs.late_ones.Given as goal
 
 abbrev pub invariant-loop-k : goal.invariant-loop-k

@@ -6,7 +6,6 @@ use lib.Bits.{and_le_l}
 use lib.ListN.{get_or}
 use Rattle.sweep.specs.Starts.StateMoved.{idle, active}
 use Rattle.sweep.proofs.Starts.{and_right}
-use borrow.Author.Rules.{rules}
 use Rattle.sweep.proofs.move_state.Goals as goal
 
 pub returns-then-firing-eq0 : goal.returns-then-firing-eq0

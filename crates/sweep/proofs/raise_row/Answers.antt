@@ -2,11 +2,9 @@
 -- Assumes nothing.
 use native.Mathlib.Omega.{arith}
 use mathlib.Core.Path.{◌≡◌, subst, ◌∙◌}
-use Prim.Native.Nat.{◌-◌, ◌≤◌}
 use Rattle.rule.specs.Promises.{most_bindings}
 use Rattle.sweep.specs.Starts.{RowRaised}
 use Rattle.sweep.proofs.Starts.{row-none, row_more}
-use borrow.Author.Rules.{rules}
 use Rattle.sweep.proofs.raise_row.Goals as goal
 
 pub loop-k-init : goal.loop-k-init

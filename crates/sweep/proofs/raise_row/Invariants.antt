@@ -1,12 +1,8 @@
 -- `sweep::raise_row` meets its contract. The loop's invariant: the counts of bindings passed are raised.
 -- Assumes nothing.
-use native.Mathlib.Omega.{arith}
-use mathlib.Core.Path.{◌≡◌, subst, ◌∙◌}
 use Prim.Native.Nat.{◌-◌, ◌≤◌}
 use Rattle.rule.specs.Promises.{most_bindings}
 use Rattle.sweep.specs.Starts.{RowRaised}
-use Rattle.sweep.proofs.Starts.{row-none, row_more}
-use borrow.Author.Rules.{rules}
 use Rattle.sweep.proofs.raise_row.Given as goal
 
 abbrev pub invariant-loop-k : goal.invariant-loop-k

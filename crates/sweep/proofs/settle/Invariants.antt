@@ -1,10 +1,6 @@
 -- `sweep::settle` meets its contract. The loop's invariant: the states passed are settled. Assumes nothing.
-use native.Mathlib.Omega.{arith}
-use mathlib.Core.Path.{◌≡◌, subst, ◌∙◌}
 use Prim.Native.Nat.{◌-◌, ◌≤◌, ◌<◌}
 use Rattle.sweep.specs.Starts.{Settled}
-use Rattle.sweep.proofs.Settling.{settled-none, settled-more}
-use borrow.Author.Rules.{rules}
 use Rattle.sweep.proofs.settle.Given as goal
 
 abbrev pub invariant-loop-at : goal.invariant-loop-at

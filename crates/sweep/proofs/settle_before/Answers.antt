@@ -1,7 +1,6 @@
 -- `sweep::settle_before` meets its contract. Assumes nothing.
 use mathlib.Core.Path.{refl}
 use Rattle.sweep.specs.Starts.SettledBefore.{goes_on, renewed}
-use borrow.Author.Rules.{rules}
 use Rattle.sweep.proofs.settle_before.Goals as goal
 
 pub returns-then-time-cycle : goal.returns-then-time-cycle

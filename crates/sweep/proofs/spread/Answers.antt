@@ -3,9 +3,8 @@
 use native.Mathlib.Omega.{arith}
 use mathlib.Core.Path.{◌∙◌}
 use Rattle.reach.proofs.MaskInTurn.{rest-less}
-use Rattle.sweep.proofs.Starts.{Spreading, spreading-none, spreading-more, spread-all, spread-variable}
+use Rattle.sweep.proofs.Starts.{spreading-none, spreading-more, spread-all, spread-variable}
 use Rattle.sweep.proofs.Starts.{spread-fires}
-use borrow.Author.Rules.{rules}
 use Rattle.sweep.proofs.spread.Goals as goal
 
 pub loop-rest-init : goal.loop-rest-init

@@ -3,8 +3,8 @@
 -- nothing.
 use native.Mathlib.Omega.{arith}
 use mathlib.Core.Path.{◌≡◌, sym, subst, ◌∙◌}
-use mathlib.Core.Bool.{false, true≢false}
-use Prim.Native.Nat.{ℕ, ◌+◌, ◌-◌, ◌≤◌}
+use mathlib.Core.Bool.{true≢false}
+use Prim.Native.Nat.{ℕ, ◌+◌}
 use lib.ListN.{get_or}
 use Rattle.records.specs.Records.{record_at, record_count, event_kind}
 use Rattle.reach.proofs.Masks.{read-bound}
@@ -12,7 +12,6 @@ use Rattle.sweep.specs.Starts.{Moved, SettledBefore}
 use Rattle.sweep.specs.Floors.{Floor}
 use Rattle.sweep.proofs.Going.{Going, floor-none, going-none, going-inside, going-floor, going-past, going-gap}
 use Rattle.sweep.proofs.Going.{going-idle, going_settled, going-moved, going-over}
-use borrow.Author.Rules.{rules}
 use Rattle.sweep.proofs.sweep.Goals as goal
 
 pub list_states-known-requires : goal.list_states-known-requires

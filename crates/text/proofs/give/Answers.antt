@@ -1,7 +1,6 @@
 -- `text::give` meets its contract: refusal 12, or the bytes and the rest cleared. Assumes nothing.
 use mathlib.Core.Path.{◌∙◌, ap}
 use native.Mathlib.Omega.{arith}
-use borrow.Author.Rules.{rules}
 use Rattle.form.specs.Promises.{bytes_written}
 use Rattle.text.specs.Given.{Given}
 use Rattle.text.proofs.Fronts.{front}

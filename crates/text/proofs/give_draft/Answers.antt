@@ -1,5 +1,4 @@
 -- `text::give_draft` meets its contract: what was put of the draft is what is judged and given. Assumes nothing.
-use borrow.Author.Rules.{rules}
 use Rattle.text.proofs.Fronts.{put-part, part_length, judged-refused, judged-given}
 use Rattle.text.proofs.give_draft.Goals as goal
 

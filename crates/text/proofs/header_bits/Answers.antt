@@ -1,6 +1,5 @@
 -- `text::header_bits` meets its contract. Assumes nothing.
 use native.Mathlib.Omega.{arith}
-use borrow.Author.Rules.{rules}
 use Rattle.form.specs.Packed.{header_bits}
 use Rattle.text.proofs.header_bits.Goals as goal
 

@@ -1,7 +1,6 @@
 -- `text::is_too_large` meets its contract. Assumes nothing.
 use mathlib.Core.Path.{refl}
 use native.Mathlib.Omega.{arith}
-use borrow.Author.Rules.{rules}
 use Rattle.text.specs.Fitting.{Measured}
 use Rattle.text.proofs.is_too_large.Goals as goal
 

@@ -1,9 +1,7 @@
 -- `text::line_end` meets its contract. The loop's invariant: no line feed stands among the bytes passed. Assumes
 -- nothing.
-use Prim.Native.Nat.{◌-◌, ◌≤◌}
 use native.Mathlib.Omega.{arith}
-use lib.ListN.{length}
-use Rattle.text.proofs.Progress.{Clear, clear_none, clear-more}
+use Rattle.text.proofs.Progress.{clear_none, clear-more}
 use Rattle.text.proofs.line_end.Goals as goal
 
 pub loop-at-init : goal.loop-at-init

@@ -1,12 +1,7 @@
 -- `text::put_conditions` meets its contract. The loop's invariant: the first i words have been put. Assumes nothing.
 use mathlib.Core.Path.{◌≡◌}
 use mathlib.Core.List.{flat_map}
-use Prim.Native.Nat.{◌+◌, ◌-◌, ◌*◌, ◌≤◌}
 use native.Mathlib.Omega.{arith}
-use lib.ListN.{length, take}
-use borrow.Author.Rules.{rules}
-use Rattle.numbers.specs.Bytes.{word_bytes}
-use Rattle.numbers.specs.Put.{Put}
 use Rattle.numbers.proofs.Put.{put-none}
 use Rattle.text.proofs.Words.{words-turn}
 use Rattle.text.proofs.put_conditions.Goals as goal

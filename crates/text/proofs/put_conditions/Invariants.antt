@@ -2,13 +2,9 @@
 use mathlib.Core.Path.{◌≡◌}
 use mathlib.Core.List.{flat_map}
 use Prim.Native.Nat.{◌+◌, ◌-◌, ◌*◌, ◌≤◌}
-use native.Mathlib.Omega.{arith}
 use lib.ListN.{length, take}
-use borrow.Author.Rules.{rules}
 use Rattle.numbers.specs.Bytes.{word_bytes}
 use Rattle.numbers.specs.Put.{Put}
-use Rattle.numbers.proofs.Put.{put-none}
-use Rattle.text.proofs.Words.{words-turn}
 use Rattle.text.proofs.put_conditions.Given as goal
 
 abbrev pub invariant-loop-i : goal.invariant-loop-i

@@ -1,6 +1,5 @@
 -- `text::put_draft` meets its contract. Assumes nothing.
 use native.Mathlib.Omega.{arith}
-use borrow.Author.Rules.{rules}
 use Rattle.text.proofs.DraftBytes.{header-kept, room-left, draft-put}
 use Rattle.text.proofs.put_draft.Goals as goal
 

@@ -1,12 +1,8 @@
 -- `text::put_variables` meets its contract. The loop's invariant: the first v bytes have been put. Assumes nothing.
 use mathlib.Core.Path.{◌≡◌}
-use Prim.Native.Nat.{◌+◌, ◌-◌, ◌≤◌}
 use native.Mathlib.Omega.{arith}
-use lib.ListN.{length, take, length-set}
-use borrow.Author.Rules.{rules}
-use Rattle.numbers.specs.Put.{Put}
+use lib.ListN.{length-set}
 use Rattle.numbers.proofs.Put.{put-none, put-word-turn}
-use Rattle.form.specs.Packed.{most_bytes}
 use Rattle.text.proofs.put_variables.Goals as goal
 
 pub loop-v-init : goal.loop-v-init

@@ -1,11 +1,7 @@
 -- `text::put_variables` meets its contract. The loop's invariant: the first v bytes have been put. Assumes nothing.
-use mathlib.Core.Path.{◌≡◌}
 use Prim.Native.Nat.{◌+◌, ◌-◌, ◌≤◌}
-use native.Mathlib.Omega.{arith}
-use lib.ListN.{length, take, length-set}
-use borrow.Author.Rules.{rules}
+use lib.ListN.{length, take}
 use Rattle.numbers.specs.Put.{Put}
-use Rattle.numbers.proofs.Put.{put-none, put-word-turn}
 use Rattle.form.specs.Packed.{most_bytes}
 use Rattle.text.proofs.put_variables.Given as goal
 

@@ -1,5 +1,4 @@
 -- `text::read_text` meets its contract. Assumes nothing.
-use borrow.Author.Rules.{rules}
 use Rattle.text.proofs.ReadAnswers.{good, fits, answer-outside, answer-too-large, answer-judged}
 use Rattle.text.proofs.read_text.Goals as goal
 

@@ -3,7 +3,6 @@ use mathlib.Core.Path.{◌∙◌, ap}
 use Prim.Native.Nat.{ℕ}
 use native.Mathlib.Omega.{arith}
 use lib.ListN.{length, length-replicate}
-use borrow.Author.Rules.{rules}
 use Rattle.form.specs.Promises.{most_text}
 use Rattle.text.proofs.Fronts.{put-part, part_length, given-part}
 use Rattle.text.proofs.WriteAnswers.{checked-in-order, checked-short, write-refused, write-given}

@@ -1,7 +1,6 @@
 -- `wording::begins_set` meets its contract. Assumes nothing.
 use borrow.Author.Tests.{eq-eqb, ne_eqb}
 use Rattle.wording.specs.Wording.{begins_set}
-use borrow.Author.Rules.{rules}
 use Rattle.wording.proofs.begins_set.Goals as goal
 
 pub returns-then-v-eq0 : goal.returns-then-v-eq0

@@ -3,7 +3,6 @@ use mathlib.Core.Path.{◌≡◌}
 use native.Mathlib.Omega.{arith}
 use Rattle.form.specs.Form.{attribute_words, attribute_word}
 use Rattle.wording.proofs.Pieces.{put_as, last-of-six}
-use borrow.Author.Rules.{rules}
 use Rattle.wording.proofs.put_attribute.Goals as goal
 
 pub returns-then-attribute-eq0 : goal.returns-then-attribute-eq0

@@ -5,7 +5,6 @@ use native.Mathlib.Omega.{arith}
 use lib.ListN.{length-set}
 use Rattle.numbers.proofs.Put.{put_byte, put_then}
 use Rattle.wording.proofs.Pieces.{unsigned, not-below, below}
-use borrow.Author.Rules.{rules}
 use Rattle.wording.proofs.put_constant.Goals as goal
 
 pub returns-then-attribute-ne4 : goal.returns-then-attribute-ne4

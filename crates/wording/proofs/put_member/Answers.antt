@@ -4,7 +4,6 @@ use Prim.Native.Nat.{◌+◌}
 use native.Mathlib.Omega.{arith}
 use lib.ListN.{length-set}
 use Rattle.wording.proofs.Pieces.{put_two, put_three, group-text, plain-text}
-use borrow.Author.Rules.{rules}
 use Rattle.wording.proofs.put_member.Goals as goal
 
 pub bounds-text-at-2 : goal.bounds-text-at-2

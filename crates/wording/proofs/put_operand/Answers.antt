@@ -2,7 +2,6 @@
 use native.Mathlib.Omega.{arith}
 use Rattle.patterns.specs.Checked.{condition_at}
 use Rattle.wording.proofs.Pieces.{constant-operand, other-operand}
-use borrow.Author.Rules.{rules}
 use Rattle.wording.proofs.put_operand.Goals as goal
 
 pub returns-then-p-i-eq0 : goal.returns-then-p-i-eq0

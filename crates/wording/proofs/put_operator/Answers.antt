@@ -4,7 +4,6 @@ use native.Mathlib.Omega.{arith}
 use Rattle.form.specs.Form.{operator_words, operator_word}
 use Rattle.wording.specs.Parts.{operator_text}
 use Rattle.wording.proofs.Pieces.{put_as, last-of-six}
-use borrow.Author.Rules.{rules}
 use Rattle.wording.proofs.put_operator.Goals as goal
 
 pub returns-then-operator-eq0 : goal.returns-then-operator-eq0

@@ -3,7 +3,6 @@ use native.Mathlib.Omega.{arith}
 use Rattle.numbers.proofs.Put.{put_then}
 use Rattle.form.specs.Form.{text_of}
 use Rattle.wording.specs.Wording.{making_of}
-use borrow.Author.Rules.{rules}
 use Rattle.wording.proofs.put_pattern.Goals as goal
 
 pub returns : goal.returns

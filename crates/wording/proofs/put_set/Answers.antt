@@ -2,7 +2,6 @@
 use native.Mathlib.Omega.{arith}
 use Rattle.wording.specs.Parts.{set_text}
 use Rattle.wording.proofs.Pieces.{put_as, later-set}
-use borrow.Author.Rules.{rules}
 use Rattle.wording.proofs.put_set.Goals as goal
 
 pub returns-then-v-eq0 : goal.returns-then-v-eq0

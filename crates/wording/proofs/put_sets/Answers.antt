@@ -1,15 +1,8 @@
 -- `wording::put_sets` meets its contract. The loop's invariant: the lines of the first v variables have been put, the
 -- last without its line feed. Assumes nothing.
-use Prim.Native.Nat.{◌-◌, ◌≤◌}
 use native.Mathlib.Omega.{arith}
-use lib.ListN.{length, length-set}
-use Rattle.numbers.specs.Put.{Put}
-use Rattle.patterns.specs.Checked.{InOrder}
-use Rattle.form.specs.Promises.{most_text}
-use Rattle.wording.specs.Wording.{sets_up_to}
-use Rattle.wording.specs.Parts.{open_lines}
+use lib.ListN.{length-set}
 use Rattle.wording.proofs.Sets.{no-sets, one-variable-more, all-sets, open-short}
-use borrow.Author.Rules.{rules}
 use Rattle.wording.proofs.put_sets.Goals as goal
 
 pub loop-v-init : goal.loop-v-init

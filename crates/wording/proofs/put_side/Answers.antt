@@ -7,7 +7,6 @@ use Rattle.numbers.proofs.Put.{put_then}
 use Rattle.form.specs.Form.{side_word}
 use Rattle.wording.specs.Parts.{side_text}
 use Rattle.wording.proofs.Pieces.{put_two}
-use borrow.Author.Rules.{rules}
 use Rattle.wording.proofs.put_side.Goals as goal
 
 pub bounds-text-at-2 : goal.bounds-text-at-2

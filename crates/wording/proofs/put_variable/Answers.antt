@@ -2,7 +2,6 @@
 use mathlib.Core.Path.{sym, ◌∙◌}
 use Rattle.numbers.proofs.Put.{put_then}
 use Rattle.wording.proofs.Pieces.{begins-text, joins-text}
-use borrow.Author.Rules.{rules}
 use Rattle.wording.proofs.put_variable.Goals as goal
 
 pub returns-then-begins_set : goal.returns-then-begins_set

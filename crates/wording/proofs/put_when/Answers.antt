@@ -6,7 +6,6 @@ use lib.ListN.{length-set}
 use Rattle.numbers.proofs.Put.{put_byte, put_then}
 use Rattle.patterns.specs.Checked.{condition_at}
 use Rattle.wording.proofs.Pieces.{when-text}
-use borrow.Author.Rules.{rules}
 use Rattle.wording.proofs.put_when.Goals as goal
 
 pub put_side-left-requires : goal.put_side-left-requires

@@ -1,17 +1,7 @@
 -- `wording::put_whens` meets its contract. The loop's invariant: the first i conditions have been put, at most 29 bytes
 -- each. Assumes nothing.
-use mathlib.Core.List.{map, flat_map}
-use Prim.Native.Nat.{◌+◌, ◌*◌, ◌-◌, ◌≤◌}
 use native.Mathlib.Omega.{arith}
-use lib.ListN.{length}
-use Rattle.numbers.specs.Numbers.{upto}
-use Rattle.numbers.specs.Put.{Put}
-use Rattle.patterns.specs.Checked.{InOrder, condition_at}
-use Rattle.form.specs.Form.{when_line}
-use Rattle.form.specs.Promises.{most_text}
-use Rattle.wording.specs.Wording.{when_of}
 use Rattle.wording.proofs.Whens.{no-whens, one-when-more, all-whens}
-use borrow.Author.Rules.{rules}
 use Rattle.wording.proofs.put_whens.Goals as goal
 
 pub loop-i-init : goal.loop-i-init

@@ -2,7 +2,6 @@
 -- each. Assumes nothing.
 use mathlib.Core.List.{map, flat_map}
 use Prim.Native.Nat.{◌+◌, ◌*◌, ◌-◌, ◌≤◌}
-use native.Mathlib.Omega.{arith}
 use lib.ListN.{length}
 use Rattle.numbers.specs.Numbers.{upto}
 use Rattle.numbers.specs.Put.{Put}
@@ -10,8 +9,6 @@ use Rattle.patterns.specs.Checked.{InOrder, condition_at}
 use Rattle.form.specs.Form.{when_line}
 use Rattle.form.specs.Promises.{most_text}
 use Rattle.wording.specs.Wording.{when_of}
-use Rattle.wording.proofs.Whens.{no-whens, one-when-more, all-whens}
-use borrow.Author.Rules.{rules}
 use Rattle.wording.proofs.put_whens.Given as goal
 
 abbrev pub invariant-loop-i : goal.invariant-loop-i

@@ -4,7 +4,6 @@ use native.Mathlib.Omega.{arith}
 use lib.ListN.{length-set}
 use Rattle.numbers.proofs.Put.{put_byte, put_then}
 use Rattle.wording.proofs.Pieces.{within_text}
-use borrow.Author.Rules.{rules}
 use Rattle.wording.proofs.put_within.Goals as goal
 
 pub shape_of-text : goal.shape_of-text

@@ -1,7 +1,6 @@
 -- `words::attribute_of` meets its contract. Assumes nothing.
 use mathlib.Core.Path.{refl}
 use native.Mathlib.Omega.{arith}
-use borrow.Author.Rules.{rules}
 use Rattle.form.specs.Form.{attribute_words}
 use Rattle.words.proofs.Rows.{passed_none, passed-more, row-found, row-none}
 use Rattle.words.proofs.attribute_of.Goals as goal

@@ -1,7 +1,6 @@
 -- `words::below_zero` meets its contract. Assumes nothing.
 use mathlib.Core.Path.{refl}
 use native.Mathlib.Omega.{arith}
-use borrow.Author.Rules.{rules}
 use borrow.Author.Tests.{not-true, not-false}
 use Rattle.words.proofs.Constants.{natural-yes, below_other, below-no-number, below-far, below-found}
 use Rattle.words.proofs.below_zero.Goals as goal

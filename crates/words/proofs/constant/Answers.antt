@@ -1,8 +1,6 @@
 -- `words::constant` meets its contract. Assumes nothing.
 use mathlib.Core.Path.{refl}
-use mathlib.Core.Logic.{⊎_elim}
 use native.Mathlib.Omega.{arith}
-use borrow.Author.Rules.{rules}
 use borrow.Author.Tests.{not-true, not-false}
 use Rattle.words.proofs.Constants.{natural-yes, constant-empty, constant-part, constant-no-number, constant-large, constant-large-amount, constant-found}
 use Rattle.words.proofs.constant.Goals as goal

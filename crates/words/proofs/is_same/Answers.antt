@@ -1,10 +1,7 @@
 -- `words::is_same` meets its contract. The loop's invariant: the lengths are the same, and so are the bytes passed.
 -- Assumes nothing.
-use mathlib.Core.Path.{◌≡◌}
-use Prim.Native.Nat.{ℕ, ◌-◌, ◌≤◌, ◌<◌}
 use native.Mathlib.Omega.{arith}
 use borrow.Author.Count.{below_more}
-use lib.ListN.{length, get_or}
 use Rattle.words.proofs.Sameness.{same-not-length, same-not-byte, same_bytes}
 use Rattle.words.proofs.is_same.Goals as goal
 

@@ -1,7 +1,6 @@
 -- `words::operator_of` meets its contract. Assumes nothing.
 use mathlib.Core.Path.{refl}
 use native.Mathlib.Omega.{arith}
-use borrow.Author.Rules.{rules}
 use Rattle.form.specs.Form.{operator_words}
 use Rattle.words.proofs.Rows.{passed_none, passed-more, row-found, row-none}
 use Rattle.words.proofs.operator_of.Goals as goal

@@ -1,7 +1,6 @@
 -- `words::side` meets its contract. Assumes nothing.
 use mathlib.Core.Path.{refl}
 use native.Mathlib.Omega.{arith}
-use borrow.Author.Rules.{rules}
 use Rattle.words.proofs.Sides.{side-short, side-no-dot, side-no-place, side-no-attribute, side-found}
 use Rattle.words.proofs.side.Goals as goal
 
