@@ -14,9 +14,10 @@ ghost use Rattle.firing.specs.Firing.{settled_order, settled_by, Settling, can_b
 ghost use Rattle.firing.specs.Firing.{side_of, pair_meets, joins_by, agrees_by, Fit};
 
 use patterns::Condition;
+pub use plans::{PLAN_ROOM, plan_of};
 use plans::{
     AMOUNT, BOTH_SIDES, CORE, FIRST_AFTER, FIRST_CLASS, FIRST_JOINS, FIRST_MARKS, FIRST_MASK,
-    FIRST_ORDER, OTHERS, PLAN_ROOM, SLOT, TYPE, TYPES_TOGETHER, WAVE,
+    FIRST_ORDER, OTHERS, SLOT, TYPE, TYPES_TOGETHER, WAVE,
 };
 
 // ## Once a record

@@ -14,7 +14,7 @@ ghost use Rattle.forward.specs.Closing.{mark_by, is_late, Begun, first_in_time, 
 ghost use Rattle.forward.specs.Lines.{Wrote};
 ghost use Rattle.forward.specs.Passes.{Prepared, Ran, Finished, limit_broken};
 
-use live::Stand;
+pub use live::{Out, Stand};
 use patterns::Pattern;
 use plans::PLAN_ROOM;
 use records::{Answer, RECORD_BYTES};
