@@ -17,10 +17,10 @@ use Rattle.patterns.specs.Checked.{filled, pattern_up_to, pattern_of, first_bad_
 use Rattle.patterns.specs.Checked.{condition_at}
 use Rattle.automaton.proofs.Membership.{clash}
 use Rattle.rule.specs.Calls.{input_answer, pattern_in, LimitInOrder, ForwardCall, MeasureCall}
-use Rattle.rule.specs.Bench.{bench_pattern, bench_block, fetch_pattern, full_limit, full_work, full_result, gives, P1, no_fetch}
+use Rattle.rule.specs.Bench.{bench_pattern, bench_block, fetch_pattern, full_limit, full_work, full_result, gives, P1}
 use Rattle.rule.proofs.Calls.{forward-one}
 use Rattle.rule.proofs.Inputs.{input-accepts}
-use Rattle.rule.proofs.Rows.{rows}
+use Rattle.rule.proofs.Rows.{rows, search-row}
 use Rattle.index.specs.Index.{index_bytes, front, events_by, index_of, lacks, rules_out, CannotMatch}
 use Rattle.index.specs.Promises.{nothing, index_made, MakePromise, SearchCall}
 use Rattle.index.proofs.Own.{own-in-order}
@@ -52,7 +52,7 @@ cannot =
     }
 
 fetch-accepted : (input_answer fetch_pattern bench_block).code ≡ 0
-fetch-accepted = go (rows no_fetch (search (Memᴰ.head, Memᴰ.tail) depth 24)).2
+fetch-accepted = go search-row.2
   where
     go : MeasureCall fetch_pattern bench_block (gives 0 0 0 []).answer → (input_answer fetch_pattern bench_block).code ≡ 0
     go (MeasureCall.refused_input n e) = sym (ap (λ (a : Answer). a.code) e)
@@ -90,7 +90,7 @@ module _ (answer : Answer) (work result : List ℕ) where
       ForwardCall fetch_pattern bench_block 1 160 full_result answer work result
       → ¬ SearchCall fetch_pattern (index_of bench_block) bench_block 1 160 full_result answer work result
   never-cannot passed met =
-      let right = (rows no_fetch (search (Memᴰ.head, Memᴰ.tail) depth 24)).0 in
+      let right = search-row.0 in
       let told = (forward-one fetch_pattern bench_block 1 160 full_result answer _ work _ result _ passed right).0 in
       let q : ◌≡◌ {A = ℕ} 10 0 = ap (λ (a : Answer). a.code) (sym told ∙ search-passes-over met) in
       omega arith

@@ -1,3 +1,4 @@
+mod Table
 pub mod OnlyOrElse
 pub mod LiveReadings
 pub mod LiveOrder

@@ -24,7 +24,8 @@ use Rattle.rule.specs.Calls.{input_answer, pattern_in, block_in, zeros, room_in,
 use Rattle.rule.specs.Calls.{ForwardCall, StartByStartCall, MeasureCall}
 use Rattle.rule.specs.Computed.{report, forward}
 use Rattle.rule.specs.Starts.{start_answer, measure_answer}
-use Rattle.rule.specs.Bench.{Row, asks, reports, lists, Says, table, agrees, table_agrees, same_list, same_reading}
+use Rattle.rule.proofs.Table.{table_agrees, no_fetch_agrees}
+use Rattle.rule.specs.Bench.{Row, asks, reports, lists, Says, table, no_fetch, agrees, same_list, same_reading}
 use Rattle.rule.specs.Bench.{same_lines, same_answer, same_outcome, limit_in_order}
 use Rattle.automaton.proofs.Membership.{both, all-mem}
 use Rattle.automaton.proofs.Listing.{steps-is}
@@ -187,3 +188,7 @@ row-says (lists pattern lent answer l) h =
 
 pub rows : (x : Row) → Memᴰ x table → Says x
 rows x m = row-says x (all-mem agrees m table_agrees)
+
+-- what the row of the search says
+pub search-row : Says no_fetch
+search-row = row-says no_fetch no_fetch_agrees

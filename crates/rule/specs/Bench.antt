@@ -1,31 +1,18 @@
 -- Rows P1 to P10 as a table, from the bytes of pattern and block to the answer of each, with the lines that are
 -- printed.
-use Rattle.std.specs.Prelude.{◌≡◌, refl, Bool, true, false, ◌&&◌, List, [], ◌∷◌, ◌++◌, ℕ, zero, suc, ◌-◌, ◌*◌, ◌/◌, ◌%◌, ◌^◌, length, take, eqb, leb}
+use Rattle.std.specs.Prelude.{Bool, true, false, ◌&&◌, List, [], ◌∷◌, ◌++◌, ℕ, zero, suc, ◌-◌, ◌*◌, ◌/◌, ◌%◌, ◌^◌, length, take, eqb, leb}
 use Rattle.records.specs.declared.Answer.{Answer}
-use Rattle.numbers.specs.Bits.{mask}
-use Rattle.numbers.specs.Numbers.{number, upto, first_from, first, count}
-use Rattle.records.specs.Records.{class_of, record_at, records_of}
-use Rattle.records.specs.Blocks.{refused, misfit, gap_broken, broken, misplaced, late, record_refusal, bad, first_bad}
-use Rattle.records.specs.Blocks.{block_answer}
-use Rattle.patterns.specs.Patterns.{most_variables, most_conditions, header, header_broken, set_number, group_flag}
-use Rattle.patterns.specs.Patterns.{variable_zero, least_set, greatest_set, variable_broken, condition_of, condition_zero}
-use Rattle.patterns.specs.Patterns.{condition_word, form_broken, condition_broken}
-use Rattle.patterns.specs.Checked.{filled, pattern_up_to, pattern_of, first_bad_variable, first_bad_condition, pattern_answer}
-use Rattle.patterns.specs.Checked.{condition_at}
-use Rattle.patterns.specs.Comparison.{signed, value, constant_value, order_of, compared_with, holds}
-use Rattle.automaton.specs.Filtering.{all, keep, filter, collect}
-use Rattle.automaton.specs.Automaton.{opens, loops, leaves, marked, carries, is_state, carried, step_word}
-use Rattle.automaton.specs.Steps.{steps_from, steps}
+use Rattle.records.specs.Blocks.{refused}
+use Rattle.patterns.specs.Patterns.{most_variables, most_conditions}
+use Rattle.patterns.specs.Checked.{pattern_of, pattern_answer}
+use Rattle.automaton.specs.Steps.{steps}
 use Rattle.automaton.specs.Listing.{step_bytes, step_room, steps_listed, listing_bytes, all_zero, ListingPromise}
-use Rattle.rule.specs.Rule.{Binding, Reading, Line, oldest_first, Report, binds, choices, passes, in_order, allowed}
-use Rattle.rule.specs.Rule.{fires, is_full, last_set_plain, gap_mark}
+use Rattle.rule.specs.Rule.{Binding, Reading, Line, oldest_first, Report}
 use Rattle.rule.specs.Promises.{Outcome}
 use Rattle.rule.specs.Calls.{input_answer, pattern_in, block_in, zeros, room_in, result_of, work_per_reading, most_live}
 use Rattle.rule.specs.Calls.{most_result_bytes, ForwardCall, StartByStartCall, MeasureCall}
-use Rattle.rule.specs.Computed.{is_event, in_window, only, or_else, any, fired, extend, step, live, lines, closing}
-use Rattle.rule.specs.Computed.{closed, report, is_met, peak, scan, forward}
-use Rattle.rule.specs.Starts.{is_past, closes_at, until, mark_at, any_fires, in_turn, close, skip_found, start_found}
-use Rattle.rule.specs.Starts.{found_from, found_all, lines_of, least_over, start_answer, measure_answer}
+use Rattle.rule.specs.Computed.{report, peak, forward}
+use Rattle.rule.specs.Starts.{start_answer, measure_answer}
 
 -- ## Patterns and blocks by their bytes
 
@@ -260,15 +247,15 @@ cycle_numbers = 8194 ∷ 0 ∷ 4098 ∷ 8194 ∷ 1 ∷ 4098 ∷ []
 abbrev pub one_cycle : Row
 one_cycle = succeeds two_pattern cycle_block full_limit full_work full_result 6 2 3 cycle_numbers
 
--- a pattern that no event of the bench can end: with a limit of 1 the forward pass refuses all the same
-abbrev pub no_fetch : Row
-no_fetch = asks fetch_pattern bench_block 1 160 full_result (refuses 10 1) (gives 0 0 0 []) (gives 0 0 0 []).answer
-
 -- Rule 10.2: the rows, and others that theorems use
 abbrev pub table : List Row
 table =
     P1 ∷ P2 ∷ P3 ∷ P4 ∷ P5 ∷ P6 ∷ P7 ∷ P8 ∷ P9 ∷ P10 ∷ bench_report ∷ front ∷ front_report ∷ one_step ∷ other_cores
-    ∷ open_gap ∷ complete_gap ∷ one_cycle ∷ no_fetch ∷ []
+    ∷ open_gap ∷ complete_gap ∷ one_cycle ∷ []
+
+-- a pattern that no event of the bench can end: with a limit of 1 the forward pass refuses all the same
+abbrev pub no_fetch : Row
+no_fetch = asks fetch_pattern bench_block 1 160 full_result (refuses 10 1) (gives 0 0 0 []) (gives 0 0 0 []).answer
 
 -- the slice of a listing: eight bytes a step, and zeros behind them
 abbrev pub listing_of : ℕ → List ℕ → List ℕ
@@ -338,15 +325,3 @@ agrees (lists pattern lent answer l) =
     && (same_list (steps (pattern_of pattern)) l
     && (leb (length l) (step_room lent)
     && same_answer (steps_listed (length l)) answer))))
-
-pub table_agrees : all agrees table ≡ true
-unfolding agrees limit_in_order same_outcome same_answer same_lines same_reading same_list mask number upto first_from first
-    count class_of record_at records_of misfit gap_broken broken misplaced late record_refusal bad first_bad block_answer header
-    header_broken set_number group_flag variable_zero least_set greatest_set variable_broken condition_of condition_zero
-    condition_word form_broken condition_broken filled pattern_up_to pattern_of first_bad_variable first_bad_condition
-    pattern_answer condition_at signed value constant_value order_of compared_with holds all keep filter collect opens loops
-    leaves marked carries is_state carried step_word steps_from steps binds choices passes in_order allowed fires is_full
-    last_set_plain gap_mark input_answer is_event in_window only or_else any fired extend step live lines closing closed report
-    is_met peak scan forward is_past closes_at until mark_at any_fires in_turn close skip_found start_found found_from found_all
-    lines_of least_over start_answer measure_answer
-table_agrees = refl
