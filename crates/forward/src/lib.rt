@@ -198,6 +198,8 @@ fn most(a: usize, b: usize) -> usize
 }
 
 // The pass over a checked block: its answer, and what it reports in the result.
+// It has a frame of its own, which does not stand while the plan is made.
+#[inline(never)]
 fn pass(
     p: Pattern,
     plan: &[u64; PLAN_ROOM],

@@ -46,6 +46,8 @@ fn line_end(text: &[u8], from: usize) -> usize
 }
 
 // The lines of a text, up to the first bad one.
+// It has a frame of its own, which does not stand while the pattern is checked.
+#[inline(never)]
 fn read_lines(text: &[u8]) -> Reading
     ensures { TextRead text.now result }
 {
