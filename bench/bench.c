@@ -85,13 +85,13 @@ static bool compare_all(const char *name, pass library, pass plain) {
 static size_t larger(size_t a, size_t b) { return a > b ? a : b; }
 
 /* The header's figures are those of the archive as it is delivered, for x86-64. Another processor's frames may take a
-   little more. */
+   little more of the longest ones. */
 #ifdef __x86_64__
 enum { MORE = 0 };
 #else
 enum { MORE = 1024 };
 #endif
-enum { MOST_FORWARD = SPALDEP_STACK_FORWARD + MORE, MOST_STARTS = SPALDEP_STACK_START_BY_START + MORE };
+enum { MOST_SEARCH = SPALDEP_STACK_FORWARD + MORE, MOST_STARTS = SPALDEP_STACK_START_BY_START + MORE };
 
 /* One line of the table; false where a call of the library takes more than that. */
 static bool print_stack(const struct workload *w) {
@@ -100,12 +100,12 @@ static bool print_stack(const struct workload *w) {
   size_t checks = larger(painted(library_check_pattern, w), painted(library_check_block, w)) - without;
   size_t texts = larger(painted(library_texts, w), painted(library_long_text, w)) - without;
   size_t maker = painted(library_make_index, w) - without, search = painted(library_search, w) - without;
-  size_t most = larger(larger(larger(forward, search), larger(listing, checks)), larger(texts, maker));
+  size_t most = larger(larger(forward, texts), larger(listing, checks));
   printf("%-24s %9zu %9zu %9zu %9zu %9zu %9zu %9zu %9zu %9zu\n", w->name, forward, search, starts, listing, checks,
          maker, texts, painted(plain_forward, w) - without, painted(plain_starts, w) - without);
-  if (most <= MOST_FORWARD && starts <= MOST_STARTS) return true;
-  printf("%-24s FAILED: it may take %u, and %u for start-by-start\n", w->name, (unsigned)MOST_FORWARD,
-         (unsigned)MOST_STARTS);
+  if (most <= SPALDEP_STACK_FORWARD && larger(search, maker) <= MOST_SEARCH && starts <= MOST_STARTS) return true;
+  printf("%-24s FAILED: it may take %u, %u for maker and search, and %u for start-by-start\n", w->name,
+         SPALDEP_STACK_FORWARD, (unsigned)MOST_SEARCH, (unsigned)MOST_STARTS);
   return false;
 }
 

@@ -1,4 +1,4 @@
-mod Table
+pub mod Table
 pub mod OnlyOrElse
 pub mod LiveReadings
 pub mod LiveOrder
