@@ -5,7 +5,7 @@
  * line, 'refused NUMBER PLACE', and is told in words on standard error. Exit status: 0 with spans or none, 1 with a
  * refusal, 2 for wrong use or a file that cannot be read, 3 where the passes differ.
  *
- *     cc -Iinclude examples/host.c crates/spaldep/out/libspaldep.a -o host
+ *     cc -Iinclude examples/host.c target/staticlib/libspaldep.a -o host
  *     ./host examples/bench.pattern examples/bench.block
  */
 #include <errno.h>

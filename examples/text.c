@@ -5,7 +5,7 @@
  * A refusal is told on standard error, by number, place and in words, and of a text with the line that it is about.
  * Exit status: 0 where it is made, 1 with a refusal, 2 for wrong use or input or output that fails.
  *
- *     cc -Iinclude examples/text.c crates/spaldep/out/libspaldep.a -o text
+ *     cc -Iinclude examples/text.c target/staticlib/libspaldep.a -o text
  *     ./text read < examples/bench.txt > my.pattern
  */
 #include <stdbool.h>
