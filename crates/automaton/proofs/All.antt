@@ -1,14 +1,12 @@
 -- Tests of every entry of a list, and implications between tests. Assumes nothing.
-use mathlib.Core.Path.{◌≡◌, refl, sym, ap, ap₂}
-use mathlib.Core.Bool.{Bool, true, false, ◌&&◌, true≢false}
-use mathlib.Core.List.{List, [], ◌∷◌, map, Memᴰ}
-use Prim.Native.Nat.{ℕ, zero, suc, ◌+◌, ◌≤◌, ◌<◌, zero-le}
-use native.Mathlib.Omega.{arith}
+use Rattle.std.proofs.Common.{◌≡◌, refl, sym, ap, ap₂, Bool, true, false, ◌&&◌, true≢false, List, [], ◌∷◌, map, ℕ}
+use Rattle.std.proofs.Common.{zero-le, arith}
+use mathlib.Core.List.{Memᴰ}
 use Rattle.numbers.specs.Numbers.{upto, every}
 use Rattle.numbers.proofs.Cases.{same_test}
 use Rattle.numbers.proofs.Every.{every_of, every_true}
 use Rattle.automaton.specs.Filtering.{implies, all}
-use Rattle.automaton.proofs.Membership.{all-mem, upto-mem}
+use Rattle.automaton.proofs.Membership.{all-mem, upto-mem, all-upto-true}
 
 pub implies-of : (s t : Bool) → (s ≡ true → t ≡ true) → implies s t ≡ true
 implies-of true t f = f refl
@@ -42,15 +40,9 @@ module _ {A B : Type 0} where
   all_map f g [] = refl
   all_map f g (a ∷ l) = ap (λ (t : Bool). f (g a) && t) (all_map f g l)
 
-all_from : (f : ℕ → Bool) (k n : ℕ) → ((v : ℕ) → k ≤ v → v < k + n → f v ≡ true) → all f (upto k n) ≡ true
-unfolding all upto
-all_from f k zero h = refl
-all_from f k (suc n) h =
-    ap₂ (λ (s t : Bool). s && t) (h k (omega arith) (omega arith)) (all_from f (suc k) n (λ v l m. h v (omega arith) (omega arith)))
-
 -- the numbers below n, as a list and by the test of each
 pub all-upto : (f : ℕ → Bool) (n : ℕ) → all f (upto 0 n) ≡ every f n
 all-upto f n =
     same_test (all f (upto 0 n)) (every f n)
     (λ e. every_of f n (λ v l. all-mem f (upto-mem 0 n v zero-le (omega arith)) e))
-    (λ e. all_from f 0 n (λ v l m. every_true f n e v (omega arith)))
+    (λ e. all-upto-true f n (every_true f n e))

@@ -1,12 +1,10 @@
 -- From how many states a variable leaves: the variables of its set but itself are free, every other bit of the state's
 -- number is settled. Assumes nothing.
-use mathlib.Core.Path.{◌≡◌, ◌∙◌, refl, sym, ap, ap₂, subst}
-use mathlib.Core.Bool.{Bool, true, false, not, ◌&&◌, ◌||◌, and-false}
-use Prim.Native.Nat.{ℕ, ◌+◌, ◌-◌, ◌*◌, ◌^◌, ◌≤◌, ◌<◌}
-use native.Mathlib.Nat.{zero-add, one-mul, zero-mul, add-mul}
-use native.Mathlib.Omega.{arith}
-use borrow.Author.Tests.{lt-ltb, le-ltb, ltb-true, eq-eqb, ne_eqb, eqb-true, not-true}
-use lib.Dec.{eqb, ltb}
+use Rattle.std.proofs.Common.{◌≡◌, ◌∙◌, refl, sym, ap, ap₂, subst, Bool, true, false, not, ◌&&◌, ◌||◌, ℕ, ◌+◌, ◌-◌}
+use Rattle.std.proofs.Common.{◌*◌, ◌^◌, ◌≤◌, ◌<◌, zero-add, one-mul, zero-mul, add-mul, arith, lt-ltb, le-ltb}
+use Rattle.std.proofs.Common.{ltb-true, eq-eqb, ne_eqb, eqb-true, eqb, ltb}
+use mathlib.Core.Bool.{and-false}
+use borrow.Author.Tests.{not-true}
 use Rattle.numbers.specs.Bits.{bit}
 use Rattle.numbers.specs.Numbers.{count, sum, one_if}
 use Rattle.numbers.proofs.Cases.{by-test, by_order, same_test}

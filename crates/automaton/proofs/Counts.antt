@@ -1,14 +1,11 @@
 -- How many steps each set gives to a listing, and that the listing has those of all sets and no others (rule 4.7).
 -- Assumes nothing.
-use mathlib.Core.Path.{◌≡◌, ◌∙◌, refl, sym, ap, ap₂}
-use mathlib.Core.Bool.{Bool, true, false, ◌&&◌, and_assoc}
-use mathlib.Core.List.{List, [], ◌∷◌, ◌++◌, append-nil, Memᴰ}
-use Prim.Native.Nat.{ℕ, zero, suc, ◌+◌, ◌-◌, ◌*◌, ◌^◌, ◌≤◌, ◌<◌}
-use native.Mathlib.Nat.{zero-add, add-zero, add-mul}
-use native.Mathlib.Omega.{arith}
-use borrow.Author.Tests.{eqb-true}
-use lib.Dec.{eqb, eqb-suc-suc}
-use lib.ListN.{length, get_or}
+use Rattle.std.proofs.Common.{◌≡◌, ◌∙◌, refl, sym, ap, ap₂, Bool, true, false, ◌&&◌, List, [], ◌∷◌, ◌++◌, append-nil}
+use Rattle.std.proofs.Common.{ℕ, zero, suc, ◌+◌, ◌-◌, ◌*◌, ◌^◌, ◌≤◌, ◌<◌, zero-add, add-zero, add-mul, arith}
+use Rattle.std.proofs.Common.{eqb-true, eqb, length, get_or}
+use mathlib.Core.Bool.{and_assoc}
+use mathlib.Core.List.{Memᴰ}
+use lib.Dec.{eqb-suc-suc}
 use Rattle.numbers.specs.Numbers.{upto, count, sum, one_if}
 use Rattle.numbers.proofs.Cases.{by-test}
 use Rattle.numbers.proofs.Count.{one_if-bound}

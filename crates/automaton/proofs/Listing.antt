@@ -1,14 +1,8 @@
 -- The steps in order are the listing, and there is only one. Assumes nothing.
-use mathlib.Core.Path.{◌≡◌}
-use mathlib.Core.Bool.{true, ◌&&◌}
+use Rattle.std.proofs.Common.{◌≡◌, true, ◌&&◌, List, [], ◌∷◌, ℕ, ◌^◌, ◌≤◌, ◌<◌, arith, lt_of_lt_of_le, ltb, pow_mono}
+use Rattle.std.proofs.Common.{ltb-true}
 use mathlib.Core.List.Memᴰ
-use mathlib.Core.List.{List, [], ◌∷◌, Memᴰ}
-use Prim.Native.Nat.{ℕ, ◌^◌, ◌≤◌, ◌<◌}
-use native.Mathlib.Omega.{arith}
-use native.Mathlib.Nat.{lt_of_lt_of_le}
-use lib.Dec.{ltb}
-use lib.Pow.{pow_mono}
-use borrow.Author.Tests.{ltb-true}
+use mathlib.Core.List.{Memᴰ}
 use Rattle.numbers.specs.Numbers.{upto}
 use Rattle.numbers.proofs.Bits.{mask_bound}
 use Rattle.numbers.proofs.Count.{one_if-bound}

@@ -1,15 +1,11 @@
 -- Tests, and membership in lists that are filtered, mapped, collected and counted up. Assumes nothing.
-use mathlib.Core.Path.{◌≡◌, refl, sym, ap, subst, ◌∙◌}
-use mathlib.Core.Logic.{◌⊎◌, inl, inr}
-use mathlib.Core.Bool.{Bool, true, false, ◌&&◌, false≢true}
+use Rattle.std.proofs.Common.{◌≡◌, refl, sym, ap, subst, ◌∙◌, ◌⊎◌, inl, inr, Bool, true, false, ◌&&◌, List, [], ◌∷◌}
+use Rattle.std.proofs.Common.{map, ℕ, zero, suc, ◌+◌, ◌≤◌, ◌<◌, arith}
+use mathlib.Core.Bool.{false≢true}
 use mathlib.Core.List.Memᴰ
-use mathlib.Core.List.{List, [], ◌∷◌, map, Memᴰ}
-use Prim.Native.Nat.{ℕ, zero, suc, ◌+◌, ◌≤◌, ◌<◌}
-use native.Mathlib.Omega.{arith}
+use mathlib.Core.List.{Memᴰ}
 use native.Mathlib.Decide.{ℕ_discrete}
-use lib.ListN.{length}
 use Rattle.numbers.specs.Numbers.{upto}
-use Rattle.numbers.proofs.Cases.{by-test}
 use Rattle.automaton.specs.Filtering.{all, keep, filter, collect}
 
 pub both : {a b : Bool} → a && b ≡ true → (a ≡ true) × (b ≡ true)
@@ -120,11 +116,6 @@ upto-below k (suc m) {w} h = go (λ i. upto-below (suc k) m i) (Memᴰ.cases_con
     go ih (inl e) = omega arith
     go ih (inr i) = omega (arith, ih i)
 
-pub length-upto : (k m : ℕ) → length (upto k m) ≡ m
-unfolding upto
-length-upto k zero = refl
-length-upto k (suc m) = ap suc (length-upto (suc k) m)
-
 -- a test of all numbers below n
 module _ (test : ℕ → Bool) where
   all_from : (k n : ℕ) → ((j : ℕ) → k ≤ j → j < k + n → test j ≡ true) → all test (upto k n) ≡ true
@@ -134,7 +125,3 @@ module _ (test : ℕ → Bool) where
 
   pub all-upto-true : (n : ℕ) → ((j : ℕ) → j < n → test j ≡ true) → all test (upto 0 n) ≡ true
   all-upto-true n f = all_from 0 n (λ j h g. f j (omega arith))
-
-  pub all-upto-false : (n i : ℕ) → i < n → test i ≡ false → all test (upto 0 n) ≡ false
-  all-upto-false n i h e =
-      by-test (all test (upto 0 n)) (λ a. clash (all-mem test (upto-mem 0 n i (omega arith) (omega arith)) a) e) (λ a. a)

@@ -1,11 +1,9 @@
 -- Lists in which each entry stands in a relation to all that follow it. Where the relation goes one way only, the
 -- members settle the list. Assumes nothing.
-use mathlib.Core.Path.{◌≡◌, refl, sym, ap₂, subst, ◌∙◌}
-use mathlib.Core.Logic.{◌⊎◌, inl, inr}
-use mathlib.Core.Bool.{Bool, true, false}
+use Rattle.std.proofs.Common.{◌≡◌, refl, sym, ap₂, subst, ◌∙◌, ◌⊎◌, inl, inr, Bool, true, false, List, [], ◌∷◌, ◌++◌}
+use Rattle.std.proofs.Common.{map, ℕ, zero, suc, ◌<◌}
 use mathlib.Core.List.Memᴰ
-use mathlib.Core.List.{List, [], ◌∷◌, ◌++◌, map, Memᴰ}
-use Prim.Native.Nat.{ℕ, zero, suc, ◌<◌}
+use mathlib.Core.List.{Memᴰ}
 use Rattle.numbers.specs.Numbers.{upto}
 use Rattle.automaton.specs.Filtering.{keep, filter}
 use Rattle.automaton.proofs.Membership.{mem-filter, mem-map, mem-upto}

@@ -1,9 +1,5 @@
 -- The promise of listing fixes the answer and every byte of the slice. Assumes nothing.
-use mathlib.Core.Path.{◌≡◌, ◌∙◌, sym, ap}
-use mathlib.Core.List.{List, ◌++◌}
-use Prim.Native.Nat.{ℕ, ◌-◌, ◌*◌}
-use native.Mathlib.Omega.{arith}
-use lib.ListN.{length}
+use Rattle.std.proofs.Common.{◌≡◌, ◌∙◌, sym, ap, List, ◌++◌, ℕ, ◌-◌, ◌*◌, arith, length}
 use Rattle.records.specs.declared.Answer.{Answer}
 use Rattle.patterns.specs.Checked.{pattern_of}
 use Rattle.automaton.specs.Automaton.{IsListing}

@@ -1,14 +1,9 @@
 -- Steps put into lent memory one after the other: the count, the bytes, and a loop that puts what is left.
 -- Assumes nothing.
-use mathlib.Core.Path.{◌≡◌, ◌∙◌, refl, sym, ap, ap₂}
-use mathlib.Core.Bool.{Bool, true, false}
-use mathlib.Core.List.{List, [], ◌∷◌, ◌++◌, map, append_assoc, append-nil}
-use Prim.Native.Nat.{ℕ, suc, ◌+◌, ◌-◌, ◌*◌, ◌^◌, ◌≤◌, ◌<◌}
-use native.Mathlib.Nat.{add-zero, zero-add}
-use native.Mathlib.Numerals.{add-one}
-use native.Mathlib.Omega.{arith}
-use borrow.Author.Tests.{lt-ltb}
-use lib.ListN.{length, length-append, length-replicate}
+use Rattle.std.proofs.Common.{◌≡◌, ◌∙◌, refl, sym, ap, ap₂, Bool, true, false, List, [], ◌∷◌, ◌++◌, map, append_assoc}
+use Rattle.std.proofs.Common.{append-nil, ℕ, suc, ◌+◌, ◌-◌, ◌*◌, ◌^◌, ◌≤◌, ◌<◌, add-zero, zero-add, add-one, arith}
+use Rattle.std.proofs.Common.{lt-ltb, length, length-append}
+use lib.ListN.{length-replicate}
 use Rattle.numbers.specs.Numbers.{upto}
 use Rattle.numbers.proofs.Cases.{by-test}
 use Rattle.numbers.proofs.Memory.{written_behind}
@@ -18,7 +13,7 @@ use Rattle.automaton.specs.Automaton.{state_of, is_state, leaves, step_word, var
 use Rattle.automaton.specs.Listing.{step_bytes, step_room, listing_bytes, all_zero}
 use Rattle.numbers.specs.Bytes.{word_bytes}
 use Rattle.automaton.specs.Steps.{steps_from, steps, step_on, steps_at, Sink, sink_of, put, puts}
-use Rattle.automaton.proofs.Membership.{length-upto}
+use Rattle.numbers.proofs.Upto.{length-upto}
 
 -- ## The steps, state by state and variable by variable
 
@@ -82,13 +77,9 @@ unfolding puts
 puts-append sink [] m = refl
 puts-append sink (w ∷ l) m = puts-append (put sink w) l m
 
-pub puts_none : (sink : Sink) → puts sink [] ≡ sink
+puts_none : (sink : Sink) → puts sink [] ≡ sink
 unfolding puts
 puts_none sink = refl
-
-pub puts_one : (sink : Sink) (w : ℕ) → puts sink (w ∷ []) ≡ put sink w
-unfolding puts
-puts_one sink w = refl
 
 puts-count : (sink : Sink) (l : List ℕ) → (puts sink l).count ≡ sink.count + length l
 unfolding puts put

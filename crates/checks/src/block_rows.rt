@@ -1,20 +1,17 @@
 // The rows of blocks. What is written of one: code, place, used.
-ghost use Rattle.std.specs.Prelude.{◌≡◌, ◌+◌, ◌*◌, ◌<◌, length};
-ghost use Rattle.records.specs.Records.{record_bytes};
-ghost use Rattle.records.specs.Blocks.{most_records};
-ghost use Rattle.tables.specs.Rows.{large};
-
-use records::{Answer, RECORD_BYTES};
+use records::{Answer, MOST_RECORDS, RECORD_BYTES};
 use std::io;
 
-// Four records more than a block may have.
-const ROOM: usize = RECORD_BYTES * (records::MOST_RECORDS + 4);
+// The room for records: four more than a block may have.
+const RECORD_ROOM: usize = MOST_RECORDS + 4;
+
+const ROOM: usize = RECORD_BYTES * RECORD_ROOM;
 
 pub(crate) fn block_row(out: &impl Print, row: &[u8]) -> io::Result<()> {
-    let mut block = tables::buffer();
+    let mut block = [0; tables::ROOM];
     let at = tables::next_word(row, 0);
     let n = tables::hex_bytes(&row[at..], &mut block);
-    put_answer(out, records::check_block(&block[0..n]))
+    put_answer(out, records::check_block(&block[..n]))
 }
 
 pub(crate) fn events_row(out: &impl Print, row: &[u8]) -> io::Result<()> {
@@ -23,46 +20,23 @@ pub(crate) fn events_row(out: &impl Print, row: &[u8]) -> io::Result<()> {
     let place_at = tables::next_word(row, extra_at);
     let byte_at = tables::next_word(row, place_at);
     let n = tables::number(row, n_at);
-    let mut block = room();
+    let mut block = [0; ROOM];
     set_times(&mut block, n);
-    set(
-        &mut block,
-        tables::number(row, place_at),
-        tables::number(row, byte_at),
-    );
-    let length = tables::least(RECORD_BYTES * n + tables::number(row, extra_at), ROOM);
-    put_answer(out, records::check_block(&block[0..length]))
-}
-
-fn room() -> [u8; ROOM]
-    ensures { record_bytes * (most_records + 4) ≡ length result }
-{
-    [0; ROOM]
-}
-
-// Gives record i the time i + 1.
-fn set_times(block: &mut [u8], n: usize)
-    requires { n < large }
-{
-    let mut i = 0;
-    while i < n {
-        set(block, RECORD_BYTES * i + 5, (i + 1) / 256);
-        set(block, RECORD_BYTES * i + 6, i + 1);
-        i += 1;
+    if let Some(byte) = block.get_mut(tables::number(row, place_at)) {
+        *byte = (tables::number(row, byte_at) % 256) as u8;
     }
+    let length = (RECORD_BYTES * n + tables::number(row, extra_at)).min(ROOM);
+    put_answer(out, records::check_block(&block[..length]))
 }
 
-// Sets a byte to the low eight bits of a value, where the block has the place.
-fn set(block: &mut [u8], place: usize, value: usize) {
-    if place < block.len() {
-        block[place] = (value % 256) as u8;
+// Gives record i the time i + 1, as far as there is room.
+fn set_times(block: &mut [u8; ROOM], n: usize) {
+    for i in 0..n.min(RECORD_ROOM) {
+        let at = RECORD_BYTES * i + 5;
+        block[at..at + 2].copy_from_slice(&(i as u16 + 1).to_be_bytes());
     }
 }
 
 fn put_answer(out: &impl Print, answer: Answer) -> io::Result<()> {
-    tables::put_number(out, answer.code as u64)?;
-    tables::put(out, b" ")?;
-    tables::put_number(out, answer.place as u64)?;
-    tables::put(out, b" ")?;
-    tables::put_number(out, answer.used as u64)
+    print!(out; "{} {} {}", answer.code, answer.place, answer.used)
 }

@@ -13,28 +13,21 @@ mod pattern_rows;
 
 use std::io;
 
-fn main(rt: HostRuntime) -> io::Result<()> {
-    let mut table = tables::large_buffer();
-    let n = tables::read_full(&mut rt.stdin(), &mut table)?;
-    rows(&rt, &table[..n])
-}
+// The room for a table.
+const TABLE_ROOM: usize = 65536;
 
-fn rows(out: &impl Print, table: &[u8]) -> io::Result<()> {
-    let mut at = 0;
-    while at < table.len() {
-        let end = tables::line_end(table, at);
-        row(out, &table[at..end])?;
-        at = end + 1;
-    }
-    Ok(())
+fn main(rt: HostRuntime) -> io::Result<()> {
+    let mut table = [0; TABLE_ROOM];
+    let n = tables::read_full(&mut rt.stdin(), &mut table)?;
+    tables::rows(&table[..n], |line| row(&rt, line))
 }
 
 fn row(out: &impl Print, row: &[u8]) -> io::Result<()> {
-    match tables::first(row) {
-        b'b' => block_rows::block_row(out, row)?,
-        b'e' => block_rows::events_row(out, row)?,
-        b'p' => pattern_rows::pattern_row(out, row)?,
-        _ => tables::put(out, row)?,
+    match row {
+        [b'b', ..] => block_rows::block_row(out, row)?,
+        [b'e', ..] => block_rows::events_row(out, row)?,
+        [b'p', ..] => pattern_rows::pattern_row(out, row)?,
+        _ => out.write_all(row)?,
     }
-    tables::put(out, b"\n")
+    println!(out)
 }

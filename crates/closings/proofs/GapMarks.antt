@@ -1,12 +1,7 @@
 -- The mark of a gap by the plan is the rule's: a step leaves the state of all variables exactly where the last set has
 -- a group variable. Assumes nothing.
-use mathlib.Core.Path.{◌≡◌, refl, sym, ap, ap₂, ◌∙◌}
-use mathlib.Core.Bool.{Bool, true, false, not}
-use mathlib.Core.List.{List}
-use Prim.Native.Nat.{ℕ, ◌-◌, ◌<◌, ◌^◌}
-use native.Mathlib.Omega.{arith}
-use lib.Dec.{ltb}
-use lib.Pow.{pow_mono}
+use Rattle.std.proofs.Common.{◌≡◌, refl, sym, ap, ap₂, ◌∙◌, Bool, true, false, not, List, ℕ, ◌-◌, ◌<◌, ◌^◌, arith}
+use Rattle.std.proofs.Common.{ltb, pow_mono}
 use borrow.Author.Tests.{ltb-true, not-true}
 use Rattle.numbers.specs.Numbers.{every}
 use Rattle.numbers.specs.Bits.{bit, mask, within, disjoint}

@@ -1,17 +1,8 @@
 -- Where the readings of a start close, by the bytes of the block, is where the rule says, and so is the mark.
 -- Assumes nothing.
-use mathlib.Core.Path.{◌≡◌, sym, ap, ap₂, subst, ◌∙◌}
-use mathlib.Core.Bool.{true, false}
-use mathlib.Core.Logic.{⊎_elim}
-use mathlib.Core.List.{List}
-use Prim.Native.Nat.{ℕ, suc, ◌+◌, ◌-◌, ◌≤◌, ◌<◌, max}
-use native.Mathlib.Nat.{eq-or-lt_of_le}
-use native.Mathlib.Numerals.{add-one}
-use native.Mathlib.Omega.{arith}
-use lib.Dec.{eqb, ltb}
-use lib.ListN.{length}
+use Rattle.std.proofs.Common.{◌≡◌, sym, ap, ap₂, subst, ◌∙◌, true, false, ⊎_elim, List, ℕ, suc, ◌+◌, ◌≤◌, ◌<◌}
+use Rattle.std.proofs.Common.{eq-or-lt_of_le, add-one, arith, eqb, ltb, length}
 use borrow.Author.Tests.{lt-ltb, le-ltb, eq-eqb, ne_eqb}
-use Rattle.numbers.proofs.Cases.{by_order}
 use Rattle.records.specs.declared.Record.{Record}
 use Rattle.records.specs.Records.{record_at, record_count, records_of, event_kind}
 use Rattle.records.proofs.Listed.{length-records, record-listed}
@@ -87,32 +78,30 @@ module _ (bytes : List ℕ) where
         (λ p g. mark-gap p B k z (is-gap k inside e) ∙ g)
 
     pub window-past :
-        (gap : ℕ) → k < record_count bytes → (record_at bytes k).kind ≡ event_kind
-        → ltb ((record_at bytes i).time + duration) (record_at bytes k).time ≡ true
-        → WindowIs bytes duration gap i (record { until = k; mark = past_mark })
-    window-past gap inside e t =
+        (gap mark : ℕ) → mark ≡ past_mark → k < record_count bytes → (record_at bytes k).kind ≡ event_kind
+        → (record_at bytes i).time + duration < (record_at bytes k).time
+        → WindowIs bytes duration gap i (record { until = k; mark = mark })
+    window-past gap mark m inside e late =
         let z : k < length B = omega (arith, length-records bytes) in
-        window-by gap past_mark (omega arith)
+        let t = lt-ltb ((record_at bytes i).time + duration) (record_at bytes k).time late in
+        window-by gap mark (omega arith)
         (λ p d. until-at p B i k z (none-closes p d) (closes-past p B i k l (is-event k inside e)
         (past_by p i k (omega arith) inside ∙ ap (λ (x : ℕ). ltb ((record_at bytes i).time + x) (record_at bytes k).time) d ∙ t)))
-        (λ p g. mark-past p B k (is-event k inside e))
+        (λ p g. mark-past p B k (is-event k inside e) ∙ sym m)
 
     pub window-end :
-        (gap : ℕ) → record_count bytes ≤ k → WindowIs bytes duration gap i (record { until = k; mark = end_mark })
-    window-end gap end =
+        (gap mark : ℕ) → mark ≡ end_mark → record_count bytes ≤ k
+        → WindowIs bytes duration gap i (record { until = record_count bytes; mark = mark })
+    window-end gap mark m end =
         let z : k ≡ length B = omega (arith, length-records bytes) in
-        window-by gap end_mark (omega arith)
+        let e : k ≡ record_count bytes = omega arith in
+        subst (λ (q : ℕ). WindowIs bytes duration gap i (record { until = q; mark = mark })) e
+        (window-by gap mark (omega arith)
         (λ p d. until_end p B i (λ q a b. none-closes p d q a (omega arith)) ∙ sym z)
-        (λ p g. ap (mark_at p B) z ∙ mark-end p B)
+        (λ p g. ap (mark_at p B) z ∙ mark-end p B ∙ sym m))
 
 pub open_none : (bytes : List ℕ) (duration i : ℕ) → OpenTo bytes duration i 0
 open_none bytes duration i = record { event = λ q a b. absurd (omega arith); near = λ q a b. absurd (omega arith) }
-
--- the record itself is no record of its window
-pub open-from :
-    (bytes : List ℕ) (duration i k m : ℕ) → m ≡ max (i + 1) k → OpenTo bytes duration i k → OpenTo bytes duration i m
-open-from bytes duration i k m e opened =
-    record { event = λ q a b. opened.event q a (omega arith); near = λ q a b. opened.near q a (omega arith) }
 
 -- what is open from one record is open from the next, whose time is no earlier
 pub open-later :
@@ -129,10 +118,3 @@ open-later bytes duration i k climbing few opened =
           let later : (record_at bytes i).time ≤ (record_at bytes (i + 1)).time = rw (add-one i) (climbing i (omega arith)) in
           omega arith;
     }
-
--- the time is compared without the sum
-pub past-sum : (first duration time : ℕ) → first ≤ time → ltb duration (time - first) ≡ ltb (first + duration) time
-past-sum first duration time h =
-    by_order (first + duration) time
-    (λ l. lt-ltb duration (time - first) (omega arith) ∙ sym (lt-ltb (first + duration) time l))
-    (λ l. le-ltb duration (time - first) (omega arith) ∙ sym (le-ltb (first + duration) time l))

@@ -1,6 +1,6 @@
 -- A when line and the within line behind other lines, and a draft of no lines. Assumes nothing.
 use mathlib.Core.Path.{◌≡◌, ◌∙◌, refl, sym, ap, subst}
-use mathlib.Core.Bool.{Bool, true, false, true≢false}
+use mathlib.Core.Bool.{Bool, true, false}
 use mathlib.Core.List.{List, [], ◌∷◌, ◌++◌, flat_map, Memᴰ}
 use Prim.Native.Nat.{ℕ, ◌≤◌}
 use native.Mathlib.Omega.{arith}
@@ -9,23 +9,23 @@ use Rattle.numbers.specs.Numbers.{upto}
 use Rattle.numbers.proofs.Cases.{by_order}
 use Rattle.patterns.specs.Patterns.{most_variables}
 use Rattle.form.specs.Form.{Side, Operand, constant, other, When, space, when_word, within_word, names, IsLetter}
-use Rattle.form.specs.Form.{SideInOrder, OperandInOrder, WhenInOrder}
+use Rattle.form.specs.Form.{line_feed, SideInOrder, OperandInOrder, WhenInOrder}
 use Rattle.form.specs.Packed.{place_of, member_bytes, condition_in, condition_bits, when_bits}
-use Rattle.form.specs.Items.{Item, when_item, within_item, sets_in, whens_in, duration_in, State, start, in_whens}
+use Rattle.form.specs.Items.{Item, when_item, within_item, item_line, Next, sets_in, whens_in, duration_in, State, start, in_whens}
 use Rattle.form.specs.Items.{finished, Named, Valid, after, end}
 use Rattle.form.proofs.Making.{sets-snoc-when, sets-snoc-within, whens-snoc-when, whens-snoc-within, duration-snoc-when}
 use Rattle.form.proofs.Making.{duration-snoc-within, end_snoc, known-names}
-use Rattle.words.specs.declared.Digits.{Digits}
-use Rattle.words.specs.Words.{place_in, SideKnown, NaturalOf}
+use Rattle.numbers.specs.Decimal.{decimal}
+use Rattle.words.specs.Words.{place_in, SideKnown, Counts}
 use Rattle.drafts.specs.declared.Draft.{Draft}
-use Rattle.drafts.specs.declared.Coded.{Coded}
-use Rattle.drafts.specs.Drafts.{places_of, Small, DraftOf, LineRead}
-use Rattle.drafts.specs.Steps.{NamedTest, OperandKnown, operand_bits, code_of, WhenKnown, ConditionOf}
+use Rattle.drafts.specs.declared.Phase.TheVariants.{Empty}
+use Rattle.drafts.specs.Drafts.{places_of, Small, DraftOf, ItemRead}
+use Rattle.drafts.specs.Steps.{NamedTest, OperandKnown, operand_bits, code_of, WhenKnown, ConditionFound, condition_words}
 use Rattle.drafts.specs.Steps.{with_condition, with_duration}
 use Rattle.drafts.proofs.Places.{named-place, place-named, place-whole}
 use Rattle.drafts.proofs.Holding.{holds-condition, holds_same}
 use Rattle.drafts.proofs.History.{known-letters}
-use Rattle.drafts.proofs.Read.{when-good, when-bad, within-good, within-bad}
+use Rattle.drafts.proofs.Read.{when-good, when-none, within-good, within_none}
 
 -- ## Names and the table of their places
 
@@ -110,70 +110,69 @@ not_named l d t h n e m =
     n.not_so e (omega (arith, h.phase, m.from)) (omega (arith, h.phase, m.upto))
 
 module _ (l : List Item) (line : List ℕ) (d : Draft) (h : DraftOf l d) (t : Bool) (n : NamedTest d.phase t) where
-  pub when-early : (r : Draft) → t ≡ false → r.bad ≡ true → LineRead l (when_word ++ (space ∷ line)) r
-  when-early r e b = when-bad l line r (λ w m o q. not_named l d t h n e m) b
+  pub when-early :
+      t ≡ false → (i : Item) → Next (end start l) i
+      → ¬ (item_line i ≡ (when_word ++ (space ∷ line)) ++ (line_feed ∷ []))
+  when-early e = when-none (end start l) line (λ w m o q. not_named l d t h n e m)
 
-  pub within-early : (r : Draft) → t ≡ false → r.bad ≡ true → LineRead l (within_word ++ (space ∷ line)) r
-  within-early r e b = within-bad l line r (λ k m q. not_named l d t h n e m) b
-
-  pub when-none :
-      (code : Coded) (r : Draft) → Valid start l → ConditionOf d.places line code → code.ok ≡ false → r.bad ≡ true
-      → LineRead l (when_word ++ (space ∷ line)) r
-  when-none code r v (ConditionOf.found w k e o b) f g = absurd (true≢false (sym o ∙ f))
-  when-none code r v (ConditionOf.none c o) f g =
-      when-bad l line r
-      (λ w m i q.
-      let known = names (sets_in l) in
-      let j : WhenInOrder known w = subst (λ (k : List ℕ). WhenInOrder k w) (known-names l) i in
-      c w (subst (λ (p : List ℕ). WhenKnown p w) (sym h.holds.places) (when-known known (known-letters l v) w j)) q)
-      g
+  pub within-early :
+      t ≡ false → (i : Item) → Next (end start l) i
+      → ¬ (item_line i ≡ (within_word ++ (space ∷ line)) ++ (line_feed ∷ []))
+  within-early e = within_none (end start l) line (λ k m q. not_named l d t h n e m)
 
   pub when-read :
-      (code : Coded) → Small d → t ≡ true → ConditionOf d.places line code → code.ok ≡ true
-      → LineRead l (when_word ++ (space ∷ line)) (with_condition d code.bits)
-  when-read code s e (ConditionOf.none c o) f = absurd (true≢false (sym f ∙ o))
-  when-read code s e (ConditionOf.found w k q o b) f =
+      (word : ℕ) → Small d → t ≡ true → ConditionFound d.places line word
+      → ItemRead l (when_word ++ (space ∷ line)) (with_condition d word)
+  when-read word s e f =
+      let w = f.when in
       let known = names (sets_in l) in
       let p = h.holds.places in
-      let j : WhenKnown (places_of known) w = subst (λ (p : List ℕ). WhenKnown p w) p k in
-      when-good l line (with_condition d code.bits) w (named_in l d t h n e)
+      let j : WhenKnown (places_of known) w = subst (λ (p : List ℕ). WhenKnown p w) p f.known in
+      when-good l line (with_condition d word) w (named_in l d t h n e)
       (subst (λ (k : List ℕ). WhenInOrder k w) (sym (known-names l)) (when-order known w j))
-      q
+      f.words
       (record {
-        good = h.good;
         holds =
             rw (sets-snoc-when l w, whens-snoc-when l w)
-            (holds-condition (sets_in l) (whens_in l) w d code.bits s h.holds
+            (holds-condition (sets_in l) (whens_in l) w d word s h.holds
             (λ few.
-            b
+            f.code
             ∙ ap (λ (p : List ℕ). code_of p (place_in p w.left.name) w.left.attribute w.operator w.right) p
             ∙ when-bits known w few j));
         phase = sym (when-phase l w);
         duration = rw (duration-snoc-when l w) h.duration;
       })
 
-  -- ## The within line
-
-  pub within_none :
-      (k : Digits) (r : Draft) → NaturalOf line k → k.ok ≡ false → r.bad ≡ true
-      → LineRead l (within_word ++ (space ∷ line)) r
-  within_none k r (NaturalOf.found m e o v) f b = absurd (true≢false (sym o ∙ f))
-  within_none k r (NaturalOf.none c o) f b = within-bad l line r (λ m i q. c m q) b
-
   pub within-read :
-      (k : Digits) → Valid start l → t ≡ true → NaturalOf line k → k.ok ≡ true
-      → LineRead l (within_word ++ (space ∷ line)) (with_duration d k.value)
-  within-read k v e (NaturalOf.none c o) f = absurd (true≢false (sym f ∙ o))
-  within-read k v e (NaturalOf.found m q o w) f =
+      (duration : ℕ) → Valid start l → t ≡ true → Counts line duration
+      → ItemRead l (within_word ++ (space ∷ line)) (with_duration d duration)
+  within-read duration v e f =
+      let m = f.number in
       let named = named_in l d t h n e in
-      within-good l line (with_duration d k.value) m named q
+      within-good l line (with_duration d duration) m named f.digits
       (record {
-        good = h.good;
         holds =
-            rw (sets-snoc-within l m, whens-snoc-within l m) (holds_same (sets_in l) (whens_in l) d k.value h.holds);
+            rw (sets-snoc-within l m, whens-snoc-within l m) (holds_same (sets_in l) (whens_in l) d duration h.holds);
         phase = sym (within-phase l m);
-        duration = rw (duration-snoc-within start l m v named.upto) w;
+        duration = rw (duration-snoc-within start l m v named.upto) f.small;
       })
+
+module _ (l : List Item) (line : List ℕ) where
+  pub when-unread :
+      (d : Draft) → DraftOf l d → Valid start l → ((w : When) → WhenKnown d.places w → ¬ (condition_words w ≡ line))
+      → (i : Item) → Next (end start l) i
+      → ¬ (item_line i ≡ (when_word ++ (space ∷ line)) ++ (line_feed ∷ []))
+  when-unread d h v c =
+      when-none (end start l) line
+      (λ w m i q.
+      let known = names (sets_in l) in
+      let j : WhenInOrder known w = subst (λ (k : List ℕ). WhenInOrder k w) (known-names l) i in
+      c w (subst (λ (p : List ℕ). WhenKnown p w) (sym h.holds.places) (when-known known (known-letters l v) w j)) q)
+
+  pub within-unread :
+      ((k : ℕ) → ¬ (decimal k ≡ line)) → (i : Item) → Next (end start l) i
+      → ¬ (item_line i ≡ (within_word ++ (space ∷ line)) ++ (line_feed ∷ []))
+  within-unread c = within_none (end start l) line (λ k m q. c k q)
 
 -- ## No lines yet
 
@@ -187,8 +186,7 @@ blank_draft =
       n = 0;
       set = 0;
       c = 0;
-      phase = 0;
-      bad = false;
+      phase = Empty;
       duration = 0;
     }
 
@@ -214,7 +212,6 @@ pub blank-told : DraftOf [] blank_draft
 unfolding sets_in whens_in duration_in end names flat_map places_of place_of upto member_bytes
 blank-told =
     record {
-      good = refl;
       holds =
           record {
             n = refl;

@@ -16,7 +16,7 @@ use Rattle.form.specs.Packed.{member_byte, member_bytes, when_bits}
 use Rattle.form.proofs.Making.{names-append}
 use Rattle.drafts.specs.declared.Draft.{Draft}
 use Rattle.drafts.specs.Drafts.{many_variables, places_of, Small, Holds}
-use Rattle.drafts.specs.Steps.{refused, with_set, with_member, with_condition, with_duration}
+use Rattle.drafts.specs.Steps.{with_set, with_member, with_condition, with_duration}
 use Rattle.drafts.proofs.Places.{places-more}
 
 -- ## Lists with one thing more
@@ -147,18 +147,6 @@ module _ (sets : List (List Member)) (s : List Member) (m : Member) (d : Draft) 
 
 -- ## A condition more
 
-pub small-condition : (d : Draft) (word : ℕ) → Small d → Small (with_condition d word)
-small-condition d word s =
-    record {
-      n = s.n;
-      set = s.set;
-      c = omega arith;
-      places = s.places;
-      letters = s.letters;
-      variables = s.variables;
-      conditions = length-set d.conditions d.c word ∙ s.conditions;
-    }
-
 pub holds-condition :
     (sets : List (List Member)) (whens : List When) (w : When) (d : Draft) (word : ℕ)
     → Small d → Holds sets whens d → (length (names sets) ≤ most_variables → word ≡ when_bits (names sets) w)
@@ -196,28 +184,4 @@ holds_same sets whens d value h =
       places = h.places;
       variables = h.variables;
       conditions = h.conditions;
-    }
-
-pub small_same : (d : Draft) (value : ℕ) → Small d → Small (with_duration d value)
-small_same d value s =
-    record {
-      n = s.n;
-      set = s.set;
-      c = s.c;
-      places = s.places;
-      letters = s.letters;
-      variables = s.variables;
-      conditions = s.conditions;
-    }
-
-pub small-refused : (d : Draft) → Small d → Small (refused d)
-small-refused d s =
-    record {
-      n = s.n;
-      set = s.set;
-      c = s.c;
-      places = s.places;
-      letters = s.letters;
-      variables = s.variables;
-      conditions = s.conditions;
     }

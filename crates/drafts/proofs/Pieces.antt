@@ -7,7 +7,7 @@ use native.Mathlib.Omega.{arith}
 use lib.ListN.{length, get_or, drop}
 use Rattle.form.specs.Form.{Member, space, plus, member_word, spaced, IsLetter}
 use Rattle.drafts.specs.declared.Piece.{Piece}
-use Rattle.drafts.specs.Steps.{PieceOf, found, none, member_in}
+use Rattle.drafts.specs.Steps.{PieceFound, member_in}
 
 -- ## What stands in front
 
@@ -32,41 +32,46 @@ behind-two (a ∷ b ∷ c ∷ l) rest e = (omega arith, cc)
 pub piece-alone :
     (bytes : List ℕ) (name : ℕ) → IsLetter name → 2 ≤ length bytes → get_or bytes 0 0 ≡ space → name ≡ get_or bytes 1 0
     → (2 < length bytes → ¬ (get_or bytes 2 0 ≡ plus))
-    → PieceOf bytes (record { size = 2; name = name; group = false })
+    → PieceFound bytes (record { size = 2; name = name; group = false })
 unfolding member_word
 piece-alone bytes name letter h s n p =
-    found letter refl
-    (two bytes h ∙ ap₂ (λ (a b : ℕ). a ∷ b ∷ drop 2 bytes) s (sym n))
-    (λ g rest e. let q = behind-two bytes rest e in p q.0 q.1)
+    record {
+      letter = letter;
+      size = refl;
+      front = two bytes h ∙ ap₂ (λ (a b : ℕ). a ∷ b ∷ drop 2 bytes) s (sym n);
+      alone = λ g rest e. let q = behind-two bytes rest e in p q.0 q.1;
+    }
 
 -- a name and a plus
 pub piece-group :
     (bytes : List ℕ) (name : ℕ) → IsLetter name → 3 ≤ length bytes → get_or bytes 0 0 ≡ space → name ≡ get_or bytes 1 0
     → get_or bytes 2 0 ≡ plus
-    → PieceOf bytes (record { size = 3; name = name; group = true })
+    → PieceFound bytes (record { size = 3; name = name; group = true })
 unfolding member_word
 piece-group bytes name letter h s n p =
-    found letter refl
-    (three bytes h
-    ∙ ap₂ (λ (a b : ℕ). a ∷ b ∷ get_or bytes 2 0 ∷ drop 3 bytes) s (sym n)
-    ∙ ap (λ (c : ℕ). space ∷ name ∷ c ∷ drop 3 bytes) p)
-    (λ g rest e. let z : ◌≡◌ {A = Bool} true false = g in let y : ◌≡◌ {A = ℕ} 0 1 = cc in absurd (omega arith))
+    record {
+      letter = letter;
+      size = refl;
+      front =
+          three bytes h
+          ∙ ap₂ (λ (a b : ℕ). a ∷ b ∷ get_or bytes 2 0 ∷ drop 3 bytes) s (sym n)
+          ∙ ap (λ (c : ℕ). space ∷ name ∷ c ∷ drop 3 bytes) p;
+      alone = λ g rest e.
+          let z : ◌≡◌ {A = Bool} true false = g in let y : ◌≡◌ {A = ℕ} 0 1 = cc in absurd (omega arith);
+    }
 
--- no name where the bytes are few, no space stands in front or no letter behind it
+-- no name where the bytes are few, or no letter stands behind the first of them
 pub piece-short :
-    (bytes : List ℕ) (piece : Piece) → piece.size ≡ 0 → length bytes < 2 → PieceOf bytes piece
+    (bytes : List ℕ) → length bytes < 2
+    → (m : Member) (rest : List ℕ) → IsLetter m.name → ¬ (bytes ≡ space ∷ (member_word m ++ rest))
 unfolding member_word
-piece-short bytes piece z h = none z (λ m rest letter e. let q = ap length e in absurd (omega arith))
-
-pub piece-closed :
-    (bytes : List ℕ) (piece : Piece) → piece.size ≡ 0 → ¬ (get_or bytes 0 0 ≡ space) → PieceOf bytes piece
-piece-closed bytes piece z h = none z (λ m rest letter e. h (ap (λ (l : List ℕ). get_or l 0 0) e))
+piece-short bytes h m rest letter e = let q = ap length e in absurd (omega arith)
 
 pub piece-other :
-    (bytes : List ℕ) (piece : Piece) → piece.size ≡ 0 → ¬ IsLetter (get_or bytes 1 0) → PieceOf bytes piece
+    (bytes : List ℕ) → ¬ IsLetter (get_or bytes 1 0)
+    → (m : Member) (rest : List ℕ) → IsLetter m.name → ¬ (bytes ≡ space ∷ (member_word m ++ rest))
 unfolding member_word
-piece-other bytes piece z h =
-    none z (λ m rest letter e. h (rw (ap (λ (l : List ℕ). get_or l 1 0) e) letter))
+piece-other bytes h m rest letter e = h (rw (ap (λ (l : List ℕ). get_or l 1 0) e) letter)
 
 -- ## The same name
 

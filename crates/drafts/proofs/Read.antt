@@ -1,17 +1,15 @@
 -- A line by its first word: what its other bytes decide. Assumes nothing.
 use mathlib.Core.Path.{◌≡◌, ◌∙◌, sym, ap, subst}
-use mathlib.Core.Bool.{true}
 use mathlib.Core.List.{List, [], ◌∷◌, ◌++◌, map, append_assoc, append-nil, append_cancel_left, append_cancel_right}
-use Prim.Native.Nat.{ℕ, ◌-◌}
+use Prim.Native.Nat.{ℕ}
 use native.Mathlib.Omega.{arith}
-use lib.ListN.{length, take, drop, length-drop}
-use lib.Seq.{take_all}
+use Rattle.std.specs.Prelude.{Option}
 use Rattle.numbers.specs.Decimal.{decimal}
 use Rattle.form.specs.Form.{Member, When, line_feed, space, set_word, when_word, within_word, member_word}
 use Rattle.form.specs.Form.{operand_word, spaced, line, set_line, when_line, within_line, WhenInOrder}
 use Rattle.form.specs.Items.{Item, set_item, when_item, within_item, item_line, State, start, SetNext, Named, Next, end}
 use Rattle.drafts.specs.declared.Draft.{Draft}
-use Rattle.drafts.specs.Drafts.{DraftOf, LineRead, good, bad}
+use Rattle.drafts.specs.Drafts.{DraftOf, ItemRead, LineRead}
 use Rattle.drafts.specs.Steps.{condition_words}
 
 -- ## The bytes of each line
@@ -61,7 +59,7 @@ not-within-when w rest e = let z : ◌≡◌ {A = ℕ} 104 105 = cc in omega ari
 
 -- ## Lines that are none
 
-set-none :
+pub set-none :
     (s : State) (rest : List ℕ)
     → ((members : List Member) → SetNext s members → ¬ (spaced (map member_word members) ≡ rest))
     → (i : Item) → Next s i → ¬ (item_line i ≡ (set_word ++ rest) ++ (line_feed ∷ []))
@@ -71,7 +69,7 @@ set-none s rest none (set_item members) n e =
 set-none s rest none (when_item w) n e = not-set-when w rest e
 set-none s rest none (within_item d) n e = not-set-within d rest e
 
-when-none :
+pub when-none :
     (s : State) (rest : List ℕ)
     → ((w : When) → Named s → WhenInOrder s.known w → ¬ (condition_words w ≡ rest))
     → (i : Item) → Next s i → ¬ (item_line i ≡ (when_word ++ (space ∷ rest)) ++ (line_feed ∷ []))
@@ -82,7 +80,7 @@ when-none s rest none (when_item w) n e =
     none w n.0 n.1 (append_cancel_left (space ∷ []) (condition_words w) rest q)
 when-none s rest none (within_item d) n e = not-when-within d (space ∷ rest) e
 
-within_none :
+pub within_none :
     (s : State) (rest : List ℕ) → ((d : ℕ) → Named s → ¬ (decimal d ≡ rest))
     → (i : Item) → Next s i → ¬ (item_line i ≡ (within_word ++ (space ∷ rest)) ++ (line_feed ∷ []))
 unfolding Next item_line
@@ -93,7 +91,7 @@ within_none s rest none (within_item d) n e =
     none d n (append_cancel_left (space ∷ []) (decimal d) rest q)
 
 -- no first word in front of the bytes
-outside :
+pub outside :
     (s : State) (bytes : List ℕ) → ((rest : List ℕ) → ¬ (bytes ≡ set_word ++ rest))
     → ((rest : List ℕ) → ¬ (bytes ≡ (when_word ++ (space ∷ [])) ++ rest))
     → ((rest : List ℕ) → ¬ (bytes ≡ (within_word ++ (space ∷ [])) ++ rest))
@@ -115,61 +113,42 @@ module _ (l : List Item) (rest : List ℕ) (r : Draft) where
   pub set-good :
       (members : List Member) → SetNext (end start l) members → spaced (map member_word members) ≡ rest
       → DraftOf (l ++ (set_item members ∷ [])) r
-      → LineRead l (set_word ++ rest) r
+      → ItemRead l (set_word ++ rest) r
   unfolding Next item_line
   set-good members n e d =
-      good (set_item members) n
-      (set-bytes members ∙ ap (λ (t : List ℕ). (set_word ++ t) ++ (line_feed ∷ [])) e) d
-
-  pub set-bad :
-      ((members : List Member) → SetNext (end start l) members → ¬ (spaced (map member_word members) ≡ rest))
-      → r.bad ≡ true
-      → LineRead l (set_word ++ rest) r
-  set-bad none b = bad (set-none (end start l) rest none) b
+      record {
+        item = set_item members;
+        next = n;
+        read = set-bytes members ∙ ap (λ (t : List ℕ). (set_word ++ t) ++ (line_feed ∷ [])) e;
+        told = d;
+      }
 
   pub when-good :
       (w : When) → Named (end start l) → WhenInOrder (end start l).known w → condition_words w ≡ rest
       → DraftOf (l ++ (when_item w ∷ [])) r
-      → LineRead l (when_word ++ (space ∷ rest)) r
+      → ItemRead l (when_word ++ (space ∷ rest)) r
   unfolding Next item_line
   when-good w n o e d =
-      good (when_item w) (n, o)
-      (when-bytes w ∙ ap (λ (t : List ℕ). (when_word ++ (space ∷ t)) ++ (line_feed ∷ [])) e) d
-
-  pub when-bad :
-      ((w : When) → Named (end start l) → WhenInOrder (end start l).known w → ¬ (condition_words w ≡ rest))
-      → r.bad ≡ true
-      → LineRead l (when_word ++ (space ∷ rest)) r
-  when-bad none b = bad (when-none (end start l) rest none) b
+      record {
+        item = when_item w;
+        next = (n, o);
+        read = when-bytes w ∙ ap (λ (t : List ℕ). (when_word ++ (space ∷ t)) ++ (line_feed ∷ [])) e;
+        told = d;
+      }
 
   pub within-good :
       (d : ℕ) → Named (end start l) → decimal d ≡ rest → DraftOf (l ++ (within_item d ∷ [])) r
-      → LineRead l (within_word ++ (space ∷ rest)) r
+      → ItemRead l (within_word ++ (space ∷ rest)) r
   unfolding Next item_line
   within-good d n e h =
-      good (within_item d) n
-      (within-bytes d ∙ ap (λ (t : List ℕ). (within_word ++ (space ∷ t)) ++ (line_feed ∷ [])) e) h
+      record {
+        item = within_item d;
+        next = n;
+        read = within-bytes d ∙ ap (λ (t : List ℕ). (within_word ++ (space ∷ t)) ++ (line_feed ∷ [])) e;
+        told = h;
+      }
 
-  pub within-bad :
-      ((d : ℕ) → Named (end start l) → ¬ (decimal d ≡ rest)) → r.bad ≡ true
-      → LineRead l (within_word ++ (space ∷ rest)) r
-  within-bad none b = bad (within_none (end start l) rest none) b
-
-pub line-bad :
-    (l : List Item) (bytes : List ℕ) (r : Draft) → ((rest : List ℕ) → ¬ (bytes ≡ set_word ++ rest))
-    → ((rest : List ℕ) → ¬ (bytes ≡ (when_word ++ (space ∷ [])) ++ rest))
-    → ((rest : List ℕ) → ¬ (bytes ≡ (within_word ++ (space ∷ [])) ++ rest))
-    → r.bad ≡ true
-    → LineRead l bytes r
-line-bad l bytes r a b c e = bad (outside (end start l) bytes a b c) e
-
--- a line as its first word and the part behind it
-pub line-part :
-    (l : List Item) (bytes word : List ℕ) (r : Draft) → bytes ≡ word ++ drop (length word) bytes
-    → LineRead l (word ++ take (length bytes - length word) (drop (length word) bytes)) r
-    → LineRead l bytes r
-line-part l bytes word r e h =
-    let n = length word in
-    let p : take (length bytes - n) (drop n bytes) ≡ drop n bytes =
-    take_all (length bytes - n) (drop n bytes) (omega (arith, length-drop n bytes)) in
-    subst (λ (b : List ℕ). LineRead l b r) (ap (λ (t : List ℕ). word ++ t) p ∙ sym e) h
+-- a line by its bytes behind the first word
+pub line-behind :
+    (l : List Item) (bytes whole : List ℕ) (r : Option Draft) → whole ≡ bytes → LineRead l bytes r → LineRead l whole r
+line-behind l bytes whole r e h = subst (λ (b : List ℕ). LineRead l b r) (sym e) h

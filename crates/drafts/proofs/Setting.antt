@@ -1,6 +1,6 @@
 -- A set line read name by name. Assumes nothing.
 use mathlib.Core.Path.{◌≡◌, ◌∙◌, refl, sym, ap, subst}
-use mathlib.Core.Bool.{true, false, true≢false}
+use mathlib.Core.Bool.{false}
 use mathlib.Core.Logic.{⊎_elim}
 use mathlib.Core.List.{List, [], ◌∷◌, ◌++◌, map, append_assoc, append-nil, map-append}
 use mathlib.Core.List.Memᴰ
@@ -11,18 +11,18 @@ use lib.ListN.{length, get_or, take, drop, length-append, length-drop, drop_of_l
 use lib.Seq.{drop-drop, take_all}
 use Rattle.words.specs.Words.{large}
 use Rattle.form.specs.Form.{Member, space, plus, set_word, first_letter, member_word, spaced, names_of, names, IsLetter}
-use Rattle.form.specs.Form.{Once}
-use Rattle.form.specs.Items.{Item, set_item, sets_in, duration_in, State, start, in_sets, Valid, after, end}
+use Rattle.form.specs.Form.{line_feed, Once}
+use Rattle.form.specs.Items.{Item, set_item, item_line, sets_in, duration_in, State, start, in_sets, Next, Valid, after, end}
 use Rattle.form.proofs.Making.{sets-snoc-set, whens-snoc-set, duration-snoc-set, end_snoc, known-names, sets-few}
 use Rattle.drafts.specs.declared.Draft.{Draft}
 use Rattle.drafts.specs.declared.Piece.{Piece}
-use Rattle.drafts.specs.Drafts.{places_of, Small, Holds, DraftOf, LineRead}
-use Rattle.drafts.specs.Steps.{PieceOf, found, none, member_in, with_set, with_member, MemberTaken, again, new}
+use Rattle.drafts.specs.Drafts.{phase_of, places_of, Small, Holds, DraftOf, ItemRead}
+use Rattle.drafts.specs.Steps.{PieceFound, member_in, with_set, with_member}
 use Rattle.drafts.proofs.Places.{named-place, place-named}
-use Rattle.drafts.proofs.Holding.{names-last, holds-set, holds-member, small-member, small-refused}
+use Rattle.drafts.proofs.Holding.{names-last, holds-set, holds-member}
 use Rattle.drafts.proofs.History.{whens-none, known-once}
 use Rattle.drafts.proofs.Pieces.{first-same}
-use Rattle.drafts.proofs.Read.{set-good, set-bad}
+use Rattle.drafts.proofs.Read.{set-good, set-none}
 
 -- ## Names that come once
 
@@ -60,8 +60,7 @@ pub record Progress (l : List Item) (line : List ℕ) (at : ℕ) (q : Draft) : T
   pub early : (end start l).phase ≤ in_sets
   pub members : List Member
   pub read : line ≡ spaced (map member_word members) ++ drop at line
-  pub good : q.bad ≡ false
-  pub phase : q.phase ≡ in_sets
+  pub phase : phase_of q.phase ≡ in_sets
   pub duration : q.duration ≡ min (duration_in l) large
   pub holds : Holds (sets_in l ++ (members ∷ [])) [] q
   pub small : (x : ℕ) → Memᴰ x (names_of members) → IsLetter x
@@ -71,7 +70,7 @@ pub record Progress (l : List Item) (line : List ℕ) (at : ℕ) (q : Draft) : T
       → (rest : List Member) × (others ≡ members ++ rest) × (spaced (map member_word rest) ≡ drop at line)
 
 pub begun :
-    (l : List Item) (line : List ℕ) (d : Draft) → Valid start l → DraftOf l d → d.phase ≤ in_sets
+    (l : List Item) (line : List ℕ) (d : Draft) → Valid start l → DraftOf l d → phase_of d.phase ≤ in_sets
     → Progress l line 0 (with_set d)
 unfolding spaced
 begun l line d v h p =
@@ -80,7 +79,6 @@ begun l line d v h p =
       early = early;
       members = [];
       read = refl;
-      good = h.good;
       phase = refl;
       duration = h.duration;
       holds = holds-set (sets_in l) d (rw (whens-none l v early) at h.holds);
@@ -152,13 +150,12 @@ more-only line at piece members others (m ∷ t) h e p o b =
 
 pub turned :
     (l : List Item) (line : List ℕ) (at : ℕ) (q : Draft) (piece : Piece) → Valid start l → Small q → at < length line
-    → IsLetter piece.name
-    → drop at line ≡ space ∷ (member_word (member_in piece) ++ drop piece.size (drop at line))
-    → (piece.group ≡ false → (t : List ℕ) → ¬ (drop piece.size (drop at line) ≡ plus ∷ t))
+    → PieceFound (drop at line) piece
     → get_or q.places (piece.name - first_letter) 0 ≡ 0
     → Progress l line at q
     → Progress l line (at + piece.size) (with_member q piece.name piece.group)
-turned l line at q piece v s h letter e p z g =
+turned l line at q piece v s h f z g =
+    let letter = f.letter in
     let m = member_in piece in
     let out = new-name (sets_in l) g.members q piece.name letter g.holds z in
     let named : names_of (g.members ++ (m ∷ [])) ≡ names_of g.members ++ (piece.name ∷ []) =
@@ -166,8 +163,7 @@ turned l line at q piece v s h letter e p z g =
     record {
       early = g.early;
       members = g.members ++ (m ∷ []);
-      read = more-read line at piece.size g.members m g.read e;
-      good = g.good;
+      read = more-read line at piece.size g.members m g.read f.front;
       phase = g.phase;
       duration = g.duration;
       holds = holds-member (sets_in l) g.members m q s (sets-few l v) letter out g.holds;
@@ -183,7 +179,7 @@ turned l line at q piece v s h letter e p z g =
           (λ n. out (rw (names-last (sets_in l) g.members) n)));
       only = λ others o.
           let k = g.only others o in
-          let t = more-only line at piece g.members others k.0 h e p k.1 k.2 in
+          let t = more-only line at piece g.members others k.0 h f.front f.alone k.1 k.2 in
           (t.0, t.1 ∙ sym (append_assoc g.members (m ∷ []) t.0), t.2);
     }
 
@@ -207,33 +203,28 @@ stuck-here line at members others (m ∷ t) h n small o b =
 
 -- no name where one must stand
 pub stuck :
-    (l : List Item) (line : List ℕ) (at : ℕ) (q r : Draft) → at < length line
+    (l : List Item) (line : List ℕ) (at : ℕ) (q : Draft) → at < length line
     → ((m : Member) (t : List ℕ) → IsLetter m.name → ¬ (drop at line ≡ space ∷ (member_word m ++ t)))
-    → r.bad ≡ true
     → Progress l line at q
-    → LineRead l (set_word ++ line) r
-stuck l line at q r h n b g =
-    set-bad l line r
+    → (i : Item) → Next (end start l) i → ¬ (item_line i ≡ (set_word ++ line) ++ (line_feed ∷ []))
+stuck l line at q h n g =
+    set-none (end start l) line
     (λ others k e.
     let o = g.only others e in
     stuck-here line at g.members others o.0 h n k.small o.1 o.2)
-    b
 
 -- a name that there is
 pub repeated :
-    (l : List Item) (line : List ℕ) (at : ℕ) (q r : Draft) (piece : Piece) → at < length line
-    → IsLetter piece.name
-    → drop at line ≡ space ∷ (member_word (member_in piece) ++ drop piece.size (drop at line))
-    → (piece.group ≡ false → (t : List ℕ) → ¬ (drop piece.size (drop at line) ≡ plus ∷ t))
+    (l : List Item) (line : List ℕ) (at : ℕ) (q : Draft) (piece : Piece) → at < length line
+    → PieceFound (drop at line) piece
     → ¬ (get_or q.places (piece.name - first_letter) 0 ≡ 0)
-    → r.bad ≡ true
     → Progress l line at q
-    → LineRead l (set_word ++ line) r
-repeated l line at q r piece h letter e p n b g =
-    set-bad l line r
+    → (i : Item) → Next (end start l) i → ¬ (item_line i ≡ (set_word ++ line) ++ (line_feed ∷ []))
+repeated l line at q piece h p n g =
+    set-none (end start l) line
     (λ others k f.
     let o = g.only others f in
-    let t = more-only line at piece g.members others o.0 h e p o.1 o.2 in
+    let t = more-only line at piece g.members others o.0 h p.front p.alone o.1 o.2 in
     let x : Once ((names (sets_in l) ++ names_of g.members) ++ (piece.name ∷ names_of t.0)) =
     subst Once
     (ap (λ (a : List ℕ). a ++ names_of others) (known-names l)
@@ -242,14 +233,13 @@ repeated l line at q r piece h letter e p n b g =
     ∙ sym (append_assoc (names (sets_in l)) (names_of g.members) (piece.name ∷ names_of t.0)))
     k.once in
     once-twice (names (sets_in l) ++ names_of g.members) piece.name (names_of t.0) x
-    (taken-name (sets_in l) g.members q piece.name letter g.holds n))
-    b
+    (taken-name (sets_in l) g.members q piece.name p.letter g.holds n))
 
 -- the line's end
 pub ended :
     (l : List Item) (line : List ℕ) (at : ℕ) (q : Draft) → Valid start l → 0 < length line → length line ≤ at
     → Progress l line at q
-    → LineRead l (set_word ++ line) q
+    → ItemRead l (set_word ++ line) q
 unfolding spaced
 ended l line at q v some h g =
     let e : spaced (map member_word g.members) ≡ line =
@@ -265,7 +255,6 @@ ended l line at q v some h g =
     })
     e
     (record {
-      good = g.good;
       holds = rw (sets-snoc-set l g.members, whens-snoc-set l g.members, whens-none l v g.early) g.holds;
       phase = g.phase ∙ sym (set-phase l g.members);
       duration = rw (duration-snoc-set l g.members) g.duration;
@@ -274,67 +263,28 @@ ended l line at q v some h g =
 -- ## A turn of the reading
 
 -- what is left of a line, as a part of it
-pub left-part :
-    (line : List ℕ) (at : ℕ) (piece : Piece) → PieceOf (take (length line - at) (drop at line)) piece
-    → PieceOf (drop at line) piece
-left-part line at piece p = rw (take_all (length line - at) (drop at line) (omega (arith, length-drop at line))) at p
+pub left-part : (line : List ℕ) (at : ℕ) → take (length line - at) (drop at line) ≡ drop at line
+left-part line at = take_all (length line - at) (drop at line) (omega (arith, length-drop at line))
 
-module _ (line : List ℕ) (at : ℕ) (piece : Piece) where
-  pub piece-letter : ¬ (piece.size ≡ 0) → PieceOf (drop at line) piece → IsLetter piece.name
-  piece-letter n (found letter size e p) = letter
-  piece-letter n (none z f) = absurd (n z)
+pub piece-size :
+    (line : List ℕ) (at : ℕ) (piece : Piece) → at < length line → PieceFound (drop at line) piece
+    → (1 ≤ piece.size) × (at + piece.size ≤ length line)
+piece-size line at piece h f = (
+  omega (arith, f.size),
+  omega (arith, f.size, ap length f.front, length-append (member_word (member_in piece)) (drop piece.size (drop at line)), length-drop at line),
+)
 
-  pub piece-size :
-      ¬ (piece.size ≡ 0) → at < length line → PieceOf (drop at line) piece
-      → (1 ≤ piece.size) × (at + piece.size ≤ length line)
-  piece-size n h (found letter size e p) =
-      (omega arith, omega (arith, ap length e, length-append (member_word (member_in piece)) (drop piece.size (drop at line)), length-drop at line))
-  piece-size n h (none z f) = absurd (n z)
-
-  pub no_name :
-      (l : List Item) (q r : Draft) → at < length line → piece.size ≡ 0 → r.bad ≡ true → PieceOf (drop at line) piece
-      → Progress l line at q
-      → LineRead l (set_word ++ line) r
-  no_name l q r h z b (found letter size e p) g = absurd (omega arith)
-  no_name l q r h z b (none y f) g = stuck l line at q r h f b g
-
-  module _ (q r : Draft) (n : ¬ (piece.size ≡ 0)) where
-    pub small-taken :
-        Small q → PieceOf (drop at line) piece → MemberTaken q piece.name piece.group r → Small r
-    small-taken s p (again a e) = subst Small (sym e) (small-refused q s)
-    small-taken s p (new a e) =
-        subst Small (sym e) (small-member q piece.name piece.group (piece-letter n p) s)
-
-    pub name-taken :
-        (l : List Item) → at < length line → r.bad ≡ true → PieceOf (drop at line) piece
-        → MemberTaken q piece.name piece.group r
-        → Progress l line at q
-        → LineRead l (set_word ++ line) r
-    name-taken l h b (found letter size e p) (again a f) g = repeated l line at q r piece h letter e p a b g
-    name-taken l h b (found letter size e p) (new a f) g =
-        absurd (true≢false (sym b ∙ ap (λ (d : Draft). d.bad) f ∙ g.good))
-    name-taken l h b (none z f) t g = absurd (n z)
-
-    pub name_new :
-        (l : List Item) → Valid start l → Small q → at < length line → r.bad ≡ false → PieceOf (drop at line) piece
-        → MemberTaken q piece.name piece.group r
-        → Progress l line at q
-        → Progress l line (at + piece.size) r
-    name_new l v s h b (found letter size e p) (again a f) g =
-        absurd (true≢false (sym (ap (λ (d : Draft). d.bad) f) ∙ b))
-    name_new l v s h b (found letter size e p) (new a f) g =
-        subst (Progress l line (at + piece.size)) (sym f) (turned l line at q piece v s h letter e p a g)
-    name_new l v s h b (none z f) t g = absurd (n z)
-
--- no set line may follow, or the line has no bytes behind its first word
+-- no set line may follow
 pub too-late :
-    (l : List Item) (line : List ℕ) (d r : Draft) → in_sets < d.phase → r.bad ≡ true → DraftOf l d
-    → LineRead l (set_word ++ line) r
-too-late l line d r h b g = set-bad l line r (λ members n e. omega (arith, n.phase, g.phase)) b
+    (l : List Item) (line : List ℕ) (d : Draft) → ¬ (phase_of d.phase ≤ in_sets) → DraftOf l d
+    → (i : Item) → Next (end start l) i → ¬ (item_line i ≡ (set_word ++ line) ++ (line_feed ∷ []))
+too-late l line d h g = set-none (end start l) line (λ members n e. h (omega (arith, n.phase, g.phase)))
 
+-- the line has no bytes behind its first word
 pub no_names :
-    (l : List Item) (line : List ℕ) (r : Draft) → length line ≡ 0 → r.bad ≡ true → LineRead l (set_word ++ line) r
-no_names l line r z b = set-bad l line r (λ members n e. none-spaced line members z n.some e) b
+    (l : List Item) (line : List ℕ) → length line ≡ 0
+    → (i : Item) → Next (end start l) i → ¬ (item_line i ≡ (set_word ++ line) ++ (line_feed ∷ []))
+no_names l line z = set-none (end start l) line (λ members n e. none-spaced line members z n.some e)
   where
     none-spaced :
         (line : List ℕ) (members : List Member) → length line ≡ 0 → ¬ (members ≡ [])

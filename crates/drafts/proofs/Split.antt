@@ -16,7 +16,7 @@ use Rattle.numbers.proofs.Cases.{both}
 use Rattle.patterns.specs.Patterns.{last_attribute}
 use Rattle.form.specs.Form.{Side, space, attribute_words, operator_words, attribute_word, operator_word, side_word, IsLetter}
 use Rattle.form.proofs.Cancel.{cut-same}
-use Rattle.drafts.specs.Steps.{WordEnd}
+use Rattle.drafts.specs.Steps.{Spaced}
 
 -- ## Words with no space
 
@@ -105,33 +105,29 @@ clear-part (b ∷ bytes) (suc place) f m =
     let r = clear-part bytes place (λ k h. f (suc k) (omega arith)) in
     ⊎_elim (λ e. f 0 (omega arith) (sym e)) (λ n. r n) (Memᴰ.cases_cons m)
 
-pub place-below : (bytes : List ℕ) (place : ℕ) → WordEnd bytes place → ¬ (place ≡ length bytes) → place < length bytes
-place-below bytes place w d = omega (arith, d, w.bound)
-
 pub joined :
-    (bytes : List ℕ) (place : ℕ) → WordEnd bytes place → place < length bytes
-    → bytes ≡ take place bytes ++ (space ∷ drop (place + 1) bytes)
-joined bytes place w h =
-    split_at bytes place 0 h
-    ∙ ap (λ (b : ℕ). take place bytes ++ (b ∷ drop (suc place) bytes)) (w.here h)
+    (bytes : List ℕ) (place : ℕ) → Spaced bytes place → bytes ≡ take place bytes ++ (space ∷ drop (place + 1) bytes)
+joined bytes place w =
+    split_at bytes place 0 w.inside
+    ∙ ap (λ (b : ℕ). take place bytes ++ (b ∷ drop (suc place) bytes)) w.here
     ∙ ap (λ (k : ℕ). take place bytes ++ (space ∷ drop k bytes)) (sym (add-one place))
 
 pub cut_at :
-    (bytes : List ℕ) (place : ℕ) (word rest : List ℕ) → WordEnd bytes place → place < length bytes
-    → ¬ Memᴰ space word → word ++ (space ∷ rest) ≡ bytes
+    (bytes : List ℕ) (place : ℕ) (word rest : List ℕ) → Spaced bytes place → ¬ Memᴰ space word
+    → word ++ (space ∷ rest) ≡ bytes
     → (word ≡ take place bytes) × (rest ≡ drop (place + 1) bytes)
-cut_at bytes place word rest w h c e =
+cut_at bytes place word rest w c e =
     cut-same space word (take place bytes) rest (drop (place + 1) bytes) c (clear-part bytes place w.clear)
-    (e ∙ joined bytes place w h)
+    (e ∙ joined bytes place w)
 
 -- no space, no word before one
 pub uncut :
-    (bytes : List ℕ) (place : ℕ) (word rest : List ℕ) → WordEnd bytes place → place ≡ length bytes
+    (bytes word rest : List ℕ) → ((k : ℕ) → k < length bytes → get_or bytes k 0 ≡ space → ⊥)
     → ¬ (word ++ (space ∷ rest) ≡ bytes)
-uncut bytes place word rest w h e =
+uncut bytes word rest clear e =
     let l = length-append word (space ∷ rest) in
     let s = ap length e in
-    w.clear (length word) (omega arith)
+    clear (length word) (omega arith)
     (ap (λ (t : List ℕ). get_or t (length word) 0) (sym e) ∙ get_or-append_seam word space rest 0)
 
 -- what stands behind a place, as a part

@@ -1,64 +1,50 @@
 -- What each step of reading does: the parts of a line, and the drafts after the steps.
-use Rattle.std.specs.Prelude.{◌≡◌, Bool, true, false, List, ◌∷◌, ◌++◌, ℕ, suc, ◌+◌, ◌-◌, ◌*◌, ◌^◌, ◌≤◌, ◌<◌, min, length, get_or, set, drop}
+use Rattle.std.specs.Prelude.{◌≡◌, Bool, true, false, List, ◌∷◌, ◌++◌, ℕ, suc, ◌+◌, ◌-◌, ◌*◌, ◌^◌, ◌≤◌, ◌<◌, min, length, get_or, set, drop, Option, Some, None}
 use Rattle.numbers.specs.Numbers.{one_if}
 use Rattle.patterns.specs.Patterns.{last_attribute, last_operator}
 use Rattle.form.specs.Form.{Member, Operand, When, space, plus, first_letter, letters}
 use Rattle.form.specs.Form.Operand.{constant, other}
 use Rattle.form.specs.Form.{member_word, side_word, operator_word, operand_word, IsLetter, in_range}
 use Rattle.form.specs.Packed.{bits_of}
-use Rattle.form.specs.Items.{in_sets, in_whens, finished}
+use Rattle.form.specs.Items.{in_sets, in_whens}
 use Rattle.words.specs.declared.Sided.{Sided}
 use Rattle.words.specs.Words.{place_in, SideKnown}
 use Rattle.drafts.specs.declared.Draft.{Draft}
 use Rattle.drafts.specs.declared.Piece.{Piece}
-use Rattle.drafts.specs.declared.Coded.{Coded}
-use Rattle.drafts.specs.Drafts.{many_variables, many_conditions}
+use Rattle.drafts.specs.declared.Phase.{Phase}
+use Rattle.drafts.specs.declared.Phase.TheVariants.{Sets, Whens, Finished}
+use Rattle.drafts.specs.Drafts.{many_variables, many_conditions, phase_of}
 
 -- ## Parts of a line
 
--- the test whether bytes begin with a word
-pub record BeginsWith (bytes word : List ℕ) (begins : Bool) : Type 0 where
-  pub so : begins ≡ true → bytes ≡ word ++ drop (length word) bytes
-  pub not_so : begins ≡ false → (rest : List ℕ) → ¬ (bytes ≡ word ++ rest)
-
--- the place of the first space, or the end
-pub record WordEnd (bytes : List ℕ) (place : ℕ) : Type 0 where
-  pub bound : place ≤ length bytes
+-- the place of the first space
+pub record Spaced (bytes : List ℕ) (place : ℕ) : Type 0 where
+  pub inside : place < length bytes
   pub clear : (k : ℕ) → k < place → get_or bytes k 0 ≡ space → ⊥
-  pub here : place < length bytes → get_or bytes place 0 ≡ space
+  pub here : get_or bytes place 0 ≡ space
+
+-- the place of the first space, if there is one
+abbrev pub WordEnd : List ℕ → Option ℕ → Type 0
+WordEnd bytes (Some place) = Spaced bytes place
+WordEnd bytes None = (k : ℕ) → k < length bytes → get_or bytes k 0 ≡ space → ⊥
 
 -- the name and the group flag of a piece
 abbrev pub member_in : Piece → Member
 member_in piece = record { name = piece.name; group = piece.group }
 
--- the name that stands behind a space in front of bytes, with a plus where one follows it; else size 0
-pub data PieceOf (bytes : List ℕ) (piece : Piece) : Type 0 where
-  found :
-      IsLetter piece.name → piece.size ≡ suc (length (member_word (member_in piece)))
-      → bytes ≡ space ∷ (member_word (member_in piece) ++ drop piece.size bytes)
-      → (piece.group ≡ false → (rest : List ℕ) → ¬ (drop piece.size bytes ≡ plus ∷ rest))
-      → PieceOf bytes piece
-  none :
-      piece.size ≡ 0
-      → ((m : Member) (rest : List ℕ) → IsLetter m.name → ¬ (bytes ≡ space ∷ (member_word m ++ rest)))
-      → PieceOf bytes piece
+-- the piece stands in front of bytes: a space, a name, and a plus where one follows it
+pub record PieceFound (bytes : List ℕ) (piece : Piece) : Type 0 where
+  pub letter : IsLetter piece.name
+  pub size : piece.size ≡ suc (length (member_word (member_in piece)))
+  pub front : bytes ≡ space ∷ (member_word (member_in piece) ++ drop piece.size bytes)
+  pub alone : piece.group ≡ false → (rest : List ℕ) → ¬ (drop piece.size bytes ≡ plus ∷ rest)
+
+-- the name that stands behind a space in front of bytes, if one does
+abbrev pub PieceOf : List ℕ → Option Piece → Type 0
+PieceOf bytes (Some piece) = PieceFound bytes piece
+PieceOf bytes None = (m : Member) (rest : List ℕ) → IsLetter m.name → ¬ (bytes ≡ space ∷ (member_word m ++ rest))
 
 -- ## Drafts after the steps
-
--- the draft, its last line bad
-abbrev pub refused : Draft → Draft
-refused d =
-    record {
-      places = d.places;
-      variables = d.variables;
-      conditions = d.conditions;
-      n = d.n;
-      set = d.set;
-      c = d.c;
-      phase = d.phase;
-      bad = true;
-      duration = d.duration;
-    }
 
 -- with the byte of the next variable; a store behind the end changes nothing
 abbrev pub with_variable : Draft → Bool → Draft
@@ -71,7 +57,6 @@ with_variable d group =
       set = d.set;
       c = d.c;
       phase = d.phase;
-      bad = d.bad;
       duration = d.duration;
     }
 
@@ -86,7 +71,6 @@ with_member d name group =
       set = d.set;
       c = d.c;
       phase = d.phase;
-      bad = d.bad;
       duration = d.duration;
     }
 
@@ -100,8 +84,7 @@ with_set d =
       n = d.n;
       set = min (d.set + 1) many_variables;
       c = d.c;
-      phase = in_sets;
-      bad = d.bad;
+      phase = Sets;
       duration = d.duration;
     }
 
@@ -115,8 +98,7 @@ with_condition d word =
       n = d.n;
       set = d.set;
       c = min (d.c + 1) many_conditions;
-      phase = in_whens;
-      bad = d.bad;
+      phase = Whens;
       duration = d.duration;
     }
 
@@ -130,22 +112,20 @@ with_duration d value =
       n = d.n;
       set = d.set;
       c = d.c;
-      phase = finished;
-      bad = d.bad;
+      phase = Finished;
       duration = value;
     }
 
--- the draft after a name in a set line: bad where the name has a place already
-pub data MemberTaken (d : Draft) (name : ℕ) (group : Bool) (r : Draft) : Type 0 where
-  again : ¬ (get_or d.places (name - first_letter) 0 ≡ 0) → r ≡ refused d → MemberTaken d name group r
-  new : get_or d.places (name - first_letter) 0 ≡ 0 → r ≡ with_member d name group → MemberTaken d name group r
+-- a name has no place yet
+abbrev pub IsNew : Draft → ℕ → Type 0
+IsNew d name = get_or d.places (name - first_letter) 0 ≡ 0
 
 -- ## When lines
 
 -- the test whether when lines and the within line may follow
-pub record NamedTest (phase : ℕ) (named : Bool) : Type 0 where
-  pub so : named ≡ true → (in_sets ≤ phase) × (phase ≤ in_whens)
-  pub not_so : named ≡ false → in_sets ≤ phase → phase ≤ in_whens → ⊥
+pub record NamedTest (phase : Phase) (named : Bool) : Type 0 where
+  pub so : named ≡ true → (in_sets ≤ phase_of phase) × (phase_of phase ≤ in_whens)
+  pub not_so : named ≡ false → in_sets ≤ phase_of phase → phase_of phase ≤ in_whens → ⊥
 
 -- every place in a table is small
 pub record Places (places : List ℕ) : Type 0 where
@@ -173,29 +153,34 @@ abbrev pub code_of : List ℕ → ℕ → ℕ → ℕ → Operand → ℕ
 code_of places place attribute operator right =
     (place - 1) * 2 ^ 60 + attribute * 2 ^ 57 + operator * 2 ^ 54 + operand_bits places right
 
+-- the word is an operand, and these are the bits of the condition with it
+pub record OperandFound (places : List ℕ) (left : Sided) (operator : ℕ) (word : List ℕ) (bits : ℕ) : Type 0 where
+  pub right : Operand
+  pub known : OperandKnown places left.attribute right
+  pub words : operand_word right ≡ word
+  pub code : bits ≡ code_of places left.place left.attribute operator right
+
 -- the code of the operand that the word is, if it is one
-pub data OperandOf (places : List ℕ) (left : Sided) (operator : ℕ) (word : List ℕ) (r : Coded) : Type 0 where
-  found :
-      (right : Operand) → OperandKnown places left.attribute right → operand_word right ≡ word → r.ok ≡ true
-      → r.bits ≡ code_of places left.place left.attribute operator right
-      → OperandOf places left operator word r
-  none :
-      ((right : Operand) → OperandKnown places left.attribute right → ¬ (operand_word right ≡ word)) → r.ok ≡ false
-      → OperandOf places left operator word r
+abbrev pub OperandOf : List ℕ → Sided → ℕ → List ℕ → Option ℕ → Type 0
+OperandOf places left operator word (Some bits) = OperandFound places left operator word bits
+OperandOf places left operator word None =
+    (right : Operand) → OperandKnown places left.attribute right → ¬ (operand_word right ≡ word)
+
+-- the bytes are an operator and an operand, and these are the bits of the condition with them
+pub record ComparisonFound (places : List ℕ) (left : Sided) (bytes : List ℕ) (bits : ℕ) : Type 0 where
+  pub operator : ℕ
+  pub right : Operand
+  pub last : operator ≤ last_operator
+  pub known : OperandKnown places left.attribute right
+  pub words : operator_word operator ++ (space ∷ operand_word right) ≡ bytes
+  pub code : bits ≡ code_of places left.place left.attribute operator right
 
 -- the code of the operator and the operand that the bytes are, if they are that
-pub data ComparisonOf (places : List ℕ) (left : Sided) (bytes : List ℕ) (r : Coded) : Type 0 where
-  found :
-      (operator : ℕ) (right : Operand) → operator ≤ last_operator → OperandKnown places left.attribute right
-      → operator_word operator ++ (space ∷ operand_word right) ≡ bytes
-      → r.ok ≡ true
-      → r.bits ≡ code_of places left.place left.attribute operator right
-      → ComparisonOf places left bytes r
-  none :
-      ((operator : ℕ) (right : Operand) → operator ≤ last_operator → OperandKnown places left.attribute right
-      → ¬ (operator_word operator ++ (space ∷ operand_word right) ≡ bytes))
-      → r.ok ≡ false
-      → ComparisonOf places left bytes r
+abbrev pub ComparisonOf : List ℕ → Sided → List ℕ → Option ℕ → Type 0
+ComparisonOf places left bytes (Some bits) = ComparisonFound places left bytes bits
+ComparisonOf places left bytes None =
+    (operator : ℕ) (right : Operand) → operator ≤ last_operator → OperandKnown places left.attribute right
+    → ¬ (operator_word operator ++ (space ∷ operand_word right) ≡ bytes)
 
 -- the words of a condition
 abbrev pub condition_words : When → List ℕ
@@ -207,10 +192,14 @@ pub record WhenKnown (places : List ℕ) (w : When) : Type 0 where
   pub operator : w.operator ≤ last_operator
   pub right : OperandKnown places w.left.attribute w.right
 
+-- the bytes are a condition, of these bits
+pub record ConditionFound (places bytes : List ℕ) (bits : ℕ) : Type 0 where
+  pub when : When
+  pub known : WhenKnown places when
+  pub words : condition_words when ≡ bytes
+  pub code : bits ≡ code_of places (place_in places when.left.name) when.left.attribute when.operator when.right
+
 -- the code of the condition that the bytes are, if they are one
-pub data ConditionOf (places bytes : List ℕ) (r : Coded) : Type 0 where
-  found :
-      (w : When) → WhenKnown places w → condition_words w ≡ bytes → r.ok ≡ true
-      → r.bits ≡ code_of places (place_in places w.left.name) w.left.attribute w.operator w.right
-      → ConditionOf places bytes r
-  none : ((w : When) → WhenKnown places w → ¬ (condition_words w ≡ bytes)) → r.ok ≡ false → ConditionOf places bytes r
+abbrev pub ConditionOf : List ℕ → List ℕ → Option ℕ → Type 0
+ConditionOf places bytes (Some bits) = ConditionFound places bytes bits
+ConditionOf places bytes None = (w : When) → WhenKnown places w → ¬ (condition_words w ≡ bytes)

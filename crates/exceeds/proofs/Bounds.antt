@@ -23,12 +23,13 @@ use Rattle.rule.proofs.SkipBranch.{any-fires, fires-none}
 use Rattle.slots.specs.Slots.{Held, state_in, held_in, holding}
 use Rattle.firing.specs.Firing.{can_by, ReadBelow}
 use Rattle.reach.specs.declared.Start.{Start}
-use Rattle.reach.specs.Readings.{Cans, Reads, Of}
+use Rattle.reach.specs.Readings.{Cans, NoneJoins, Reads, Of}
 use Rattle.reach.specs.Growing.{Grows, NoneOver}
 use Rattle.reach.specs.Growing.Grows.{here, waits, takes}
+use Rattle.reach.proofs.Readings.{read_below}
 use Rattle.exceeds.specs.declared.Open.{Open}
 use Rattle.exceeds.specs.declared.Tally.{Tally}
-use Rattle.exceeds.specs.Open.{loops_by, again_by, once_by, IsOpen, NoneJoins, Counted}
+use Rattle.exceeds.specs.Open.{loops_by, again_by, once_by, IsOpen, Counted}
 use Rattle.exceeds.specs.Open.Counted.{again, once, full, none}
 use Rattle.exceeds.proofs.Places.{grows-length}
 use Rattle.exceeds.proofs.Counting.{count-more, count-one-more}
@@ -171,15 +172,6 @@ module _ (plan bytes : List ℕ) (n c : ℕ) (few : n ≤ most_variables) (r : R
   pub few-next : Few plan bytes n c r j (i + 1) u
   few-next = record { each = λ p of q g. next-each p of q (i + 1) (omega arith) g }
 
--- a record adds one binding at most
-pub counted-sum :
-    (plan bytes : List ℕ) (i can : ℕ) (o : Open) (r : Reading) (t u : Tally) → Counted plan bytes i can o r t u
-    → u.many + u.single ≤ (t.many + t.single) + 1
-counted-sum plan bytes i can o r t u (again m s) = omega arith
-counted-sum plan bytes i can o r t u (once a m s) = omega arith
-counted-sum plan bytes i can o r t u (full a l m s) = omega arith
-counted-sum plan bytes i can o r t u (none a w m s) = omega arith
-
 -- ## The reading of a slot
 
 -- what stays from record to record
@@ -195,21 +187,14 @@ module _ (plan bytes cans slot : List ℕ) (n c j : ℕ) (o : Open) (fixed : Fix
   known-state =
       subst (λ (x : ℕ). IsOpen plan n x o) (ap (λ (x : Held). x.state) fixed.reads.held) fixed.known
 
-  read_below : (p : Pattern) → Of p plan bytes n c → ReadBelow p j (held_in slot).bindings
-  read_below p of =
-      record {
-        variable = λ b m. let v = fixed.reads.variable b m in omega (arith, of.variables);
-        below = fixed.reads.below;
-        latest = fixed.reads.latest;
-      }
-
   pub few-turn :
       (i : ℕ) → j ≤ i → i < record_count bytes → (t u : Tally)
       → Counted plan bytes i (get_or cans i 0) o (held_in slot).bindings t u
       → Few plan bytes n c (held_in slot).bindings j i t
       → Few plan bytes n c (held_in slot).bindings j (i + 1) u
   few-turn i from inside t u counted before =
-      few-next plan bytes n c fixed.few (held_in slot).bindings j read_below i from inside (get_or cans i 0)
+      few-next plan bytes n c fixed.few (held_in slot).bindings j
+      (λ p of. read_below p plan bytes n c of j slot fixed.reads) i from inside (get_or cans i 0)
       (fixed.settled.each i inside) o known-state t u counted before
 
 -- ## None over
@@ -268,10 +253,9 @@ pub few-over :
     (plan bytes : List ℕ) (s : Start) (slot : List ℕ) (j i end : ℕ) (t : Tally)
     → Few plan bytes s.n s.c (held_in slot).bindings j i t
     → j ≤ i
-    → i ≤ end
     → (t.many + t.single) + (end - i) ≤ most_bindings
     → NoneOver plan bytes s slot j end
-few-over plan bytes s slot j i end t few from up_to small =
+few-over plan bytes s slot j i end t few from small =
     record {
       few = λ p of q k v g l f.
           let r : Reading = (held_in slot).bindings in

@@ -1,5 +1,4 @@
 pub mod Places
 pub mod Counting
-pub mod StillOpen
 pub mod Taken
 pub mod Bounds

@@ -13,7 +13,6 @@ use Rattle.slots.proofs.Slots.{length-held_in}
 use Rattle.reach.specs.declared.Start.{Start}
 use Rattle.reach.specs.Growing.{Grows, NoneOver}
 use Rattle.reach.specs.Growing.Grows.{here, waits, takes}
-use Rattle.reach.proofs.Growing.{grows-later}
 
 -- what has grown since record j has at most a binding more for each record
 pub grows-length :
@@ -33,13 +32,4 @@ none_over s slot j end few plan bytes =
     record {
       few = λ p o q i v g l f.
           omega (arith, grows-length p (records_of bytes) (held_in slot).bindings j q i g, length-held_in slot);
-    }
-
--- no record is left
-pub none_left :
-    (s : Start) (slot : List ℕ) (j end : ℕ) → end ≤ j → (plan bytes : List ℕ) → NoneOver plan bytes s slot j end
-none_left s slot j end none plan bytes =
-    record {
-      few = λ p o q i v g l f.
-          absurd (omega (arith, grows-later p (records_of bytes) (held_in slot).bindings j q i g));
     }

@@ -1,11 +1,12 @@
 -- What a reading can still bind, by its state, and how a record is counted. No promise of a public call names this
 -- file.
-use Rattle.std.specs.Prelude.{◌≡◌, Bool, true, false, not, ◌&&◌, ◌||◌, List, ℕ, ◌+◌, ◌^◌, ◌≤◌}
+use Rattle.std.specs.Prelude.{◌≡◌, Bool, not, ◌&&◌, ◌||◌, List, ℕ, ◌+◌, ◌^◌, ◌≤◌}
 use Rattle.std.specs.Int.Bits.{bit_and}
 use Rattle.numbers.specs.Numbers.{count}
 use Rattle.numbers.specs.Bits.{bit, mask}
 use Rattle.rule.specs.Rule.{Reading}
-use Rattle.firing.specs.Firing.{leaves_by, joins_by}
+use Rattle.firing.specs.Firing.{leaves_by}
+use Rattle.reach.specs.Readings.{NoneJoins}
 use Rattle.exceeds.specs.declared.Open.{Open}
 use Rattle.exceeds.specs.declared.Tally.{Tally}
 
@@ -26,10 +27,6 @@ pub record IsOpen (plan : List ℕ) (n state : ℕ) (o : Open) : Type 0 where
   pub again : o.again ≡ mask (again_by plan state) n
   pub once : o.once ≡ mask (once_by plan state) n
   pub singles : o.singles ≡ count (once_by plan state) n
-
--- no variable of a mask joins a reading at record i
-pub record NoneJoins (plan bytes : List ℕ) (i asked : ℕ) (r : Reading) : Type 0 where
-  pub each : (v : ℕ) → bit asked v ≡ true → joins_by plan bytes i v r ≡ false
 
 -- how record i is counted: where a variable that can be bound again joins; else where one that can be bound once does,
 -- as long as there are more of these than records counted for them; else not

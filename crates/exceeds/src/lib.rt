@@ -2,16 +2,16 @@
 // reading that can't.
 #![tactic(auto)]
 
-ghost use Rattle.std.specs.Prelude.{◌≡◌, false, List, ℕ, ◌+◌, ◌^◌, ◌≤◌, ◌<◌, length};
+ghost use Rattle.std.specs.Prelude.{◌≡◌, false, List, ℕ, ◌+◌, ◌^◌, ◌≤◌, ◌<◌};
 ghost use Rattle.patterns.specs.Patterns.{most_variables};
 ghost use Rattle.rule.specs.Promises.{most_bindings};
 ghost use Rattle.slots.specs.Slots.{held_in};
-ghost use Rattle.plans.specs.Plan.{plan_room};
 ghost use Rattle.firing.specs.Firing.{Fit};
 ghost use Rattle.reach.specs.Readings.{Cans, Reads, Ready};
 ghost use Rattle.reach.specs.Growing.{NoneOver};
-ghost use Rattle.exceeds.specs.Open.{loops_by, again_by, once_by, IsOpen, NoneJoins, Counted};
+ghost use Rattle.exceeds.specs.Open.{loops_by, again_by, once_by, IsOpen, Counted};
 
+use plans::Plan;
 use reach::Start;
 
 // ## By places
@@ -22,22 +22,15 @@ pub fn has_room(s: Start, j: usize, slot: &[u8], end: usize) -> bool
     requires { Reads s.n j slot.now }
     ensures { result ≡ false → (plan bytes : List ℕ) → NoneOver plan bytes s slot.now j end }
 {
-    if end <= j {
-        return false;
-    }
     let free = slots::MOST_BINDINGS - slots::count_of(slot);
-    let left = end - j;
-    if left <= free {
-        return false;
-    }
-    true
+    free < end.saturating_sub(j)
 }
 
 // ## By the variables that are still open
 
 // The variables that a reading can still bind: those that it can bind again and again, those that it can bind once, and
 // how many there are of these.
-#[derive(Clone, Copy)]
+#[derive(Clone, Copy, Debug, PartialEq, Eq)]
 struct Open {
     again: u64,
     once: u64,
@@ -46,95 +39,56 @@ struct Open {
 
 // The bindings that a reading can come to: its own with the records at which a variable fires that can be bound again,
 // and the other records at which one fires that can be bound once.
-#[derive(Clone, Copy)]
+#[derive(Clone, Copy, Debug, PartialEq, Eq)]
 struct Tally {
     many: usize,
     single: usize,
 }
 
 // Whether v may be bound more than once: bound alone, it leaves the state again.
-fn loops(plan: &[u64; plans::PLAN_ROOM], v: usize) -> bool
-    requires { (length plan.now ≡ plan_room) × (v < most_variables) }
+#[tactic(auto, unfolding(crate::specs::Open::loops_by))]
+fn loops(plan: &Plan, v: usize) -> bool
+    requires { v < most_variables }
     ensures { result ≡ loops_by plan.now v }
 {
     firing::leaves(plan, numbers::weight(v), v)
 }
 
 // Whether v can be bound from a state on, and more than once.
-fn is_again(plan: &[u64; plans::PLAN_ROOM], state: u64, v: usize) -> bool
-    requires { (length plan.now ≡ plan_room) × (v < most_variables) }
+#[tactic(auto, unfolding(crate::specs::Open::again_by))]
+fn is_again(plan: &Plan, state: u64, v: usize) -> bool
+    requires { v < most_variables }
     ensures { result ≡ again_by plan.now state v }
 {
-    if !loops(plan, v) {
-        return false;
-    }
-    if !numbers::bit_of(state, v) {
-        return true;
-    }
-    firing::leaves(plan, state, v)
+    loops(plan, v) && (!numbers::bit_of(state, v) || firing::leaves(plan, state, v))
 }
 
 // Whether v can be bound from a state on, and once only.
-fn is_once(plan: &[u64; plans::PLAN_ROOM], state: u64, v: usize) -> bool
-    requires { (length plan.now ≡ plan_room) × (v < most_variables) }
+#[tactic(auto, unfolding(crate::specs::Open::once_by))]
+fn is_once(plan: &Plan, state: u64, v: usize) -> bool
+    requires { v < most_variables }
     ensures { result ≡ once_by plan.now state v }
 {
-    if loops(plan, v) {
-        return false;
-    }
-    !numbers::bit_of(state, v)
+    !loops(plan, v) && !numbers::bit_of(state, v)
 }
 
 // The variables that can be bound from a state on.
-fn open_of(plan: &[u64; plans::PLAN_ROOM], n: usize, state: u64) -> Open
-    requires { (length plan.now ≡ plan_room) × (n ≤ most_variables) }
+fn open_of(plan: &Plan, n: usize, state: u64) -> Open
+    requires { n ≤ most_variables }
     ensures { IsOpen plan.now n state result }
 {
-    let mut again = 0;
-    let mut once = 0;
-    let mut singles = 0;
-    let mut v = 0;
-    while v < n {
-        let plain = is_once(plan, state, v);
-        again = again + numbers::weight_if(is_again(plan, state, v), v);
-        once = once + numbers::weight_if(plain, v);
-        singles = singles + numbers::one_if(plain);
-        v += 1;
-    }
+    let once = numbers::mask(n, |v| is_once(plan, state, v));
     Open {
-        again,
+        again: numbers::mask(n, |v| is_again(plan, state, v)),
         once,
-        singles,
+        singles: once.count_ones() as usize,
     }
-}
-
-// Whether a variable of a mask joins the slot's reading at record i.
-fn any_joins(
-    block: &[u8],
-    plan: &[u64; plans::PLAN_ROOM],
-    i: usize,
-    asked: u64,
-    slot: &[u8],
-) -> bool
-    requires { (asked < 2 ^ most_variables) × Fit plan.now block.now i slot.now }
-    ensures { result ≡ false
-        → NoneJoins plan.now block.now i asked (held_in slot.now).bindings }
-{
-    let mut rest = asked;
-    while rest != 0 {
-        let v = numbers::lowest_bit(rest);
-        if firing::joins_hold(plan, block, i, v, slot) {
-            return true;
-        }
-        rest = numbers::without_bit(rest, v);
-    }
-    false
 }
 
 // The tally with record i, at which the variables of `can` can fire.
 fn count_record(
     block: &[u8],
-    plan: &[u64; plans::PLAN_ROOM],
+    plan: &Plan,
     i: usize,
     can: u64,
     variables: Open,
@@ -146,21 +100,20 @@ fn count_record(
     ensures { Counted plan.now block.now i can variables
         (held_in slot.now).bindings t result }
 {
-    if any_joins(block, plan, i, can & variables.again, slot) {
-        return Tally {
+    if reach::any_joins(block, plan, i, can & variables.again, slot) {
+        Tally {
             many: t.many + 1,
-            single: t.single,
-        };
-    }
-    if variables.singles <= t.single {
-        return t;
-    }
-    if !any_joins(block, plan, i, can & variables.once, slot) {
-        return t;
-    }
-    Tally {
-        many: t.many,
-        single: t.single + 1,
+            ..t
+        }
+    } else if t.single < variables.singles
+        && reach::any_joins(block, plan, i, can & variables.once, slot)
+    {
+        Tally {
+            single: t.single + 1,
+            ..t
+        }
+    } else {
+        t
     }
 }
 
@@ -168,7 +121,7 @@ fn count_record(
 // variable that is still open can fire and joins what is bound, one that can be bound once at one of them only.
 pub fn can_exceed(
     block: &[u8],
-    plan: &[u64; plans::PLAN_ROOM],
+    plan: &Plan,
     cans: &[u16; records::MOST_RECORDS],
     s: Start,
     j: usize,
@@ -180,26 +133,20 @@ pub fn can_exceed(
     ensures { result ≡ false
         → NoneOver plan.now block.now s slot.now j end }
 {
-    if end <= j {
-        return false;
-    }
     let variables = open_of(plan, s.n, slots::state_of(slot));
     let mut t = Tally {
         many: slots::count_of(slot),
         single: 0,
     };
-    let mut i = j;
-    loop {
-        let sum = t.many + t.single;
-        if slots::MOST_BINDINGS < sum {
-            return true;
-        }
-        let free = slots::MOST_BINDINGS - sum;
-        let left = end - i;
-        if left <= free {
+    for i in j..end {
+        let free = slots::MOST_BINDINGS - (t.many + t.single);
+        if end - i <= free {
             return false;
         }
         t = count_record(block, plan, i, cans[i] as u64, variables, slot, t);
-        i += 1;
+        if slots::MOST_BINDINGS < t.many + t.single {
+            return true;
+        }
     }
+    false
 }

@@ -4,16 +4,15 @@ use mathlib.Core.Path.{◌≡◌, refl, sym, ap, ◌∙◌}
 use mathlib.Core.Bool.{Bool, true, false, not, ◌&&◌, ◌||◌}
 use Prim.Native.Nat.{ℕ, zero, suc, ◌+◌, ◌-◌, ◌*◌, ◌^◌, ◌≤◌, ◌<◌}
 use native.Mathlib.Omega.{arith}
-use native.Mathlib.Nat.{add_comm, lt_of_le_of_lt}
+use native.Mathlib.Nat.{lt_of_le_of_lt}
 use borrow.Author.Tests.{eqb-true, ne_eqb}
 use lib.Bits.{bit_and, and_le_l}
-use lib.Count.{ones, ones_in, ones_cat}
 use lib.Dec.{eqb}
 use Rattle.numbers.specs.Numbers.{count, one_if}
 use Rattle.numbers.specs.Bits.{bit, mask}
 use Rattle.numbers.proofs.Cases.{by-test, by_order}
 use Rattle.numbers.proofs.Count.{count-ext, one_if-bound}
-use Rattle.numbers.proofs.Bits.{bit-and, bit-without, bits-same, mask_bound, mask-inside, mask-of-bits}
+use Rattle.numbers.proofs.Bits.{bit-and, bits-same, mask_bound, mask-inside, mask-of-bits}
 use Rattle.numbers.proofs.Lowest.{trailing-lowest}
 
 -- ## Counts
@@ -30,11 +29,6 @@ count-zero : (n : ℕ) → count (λ v. false) n ≡ 0
 unfolding count
 count-zero zero = refl
 count-zero (suc n) = let e = count-zero n in omega arith
-
-pub count-bound : (f : ℕ → Bool) (n : ℕ) → count f n ≤ n
-unfolding count
-count-bound f zero = omega arith
-count-bound f (suc n) = let e = count-bound f n in let one = one_if-bound (f n) in omega arith
 
 -- all that pass f pass g
 pub count-all :
@@ -77,25 +71,6 @@ module _ (f g : ℕ → Bool) (w : ℕ) where
 
 -- ## Masks
 
-ones-if : (t : Bool) → ones (one_if t) ≡ one_if t
-unfolding ones ones_in
-ones-if true = refl
-ones-if false = refl
-
-ones-mask : (f : ℕ → Bool) (n : ℕ) → ones (mask f n) ≡ count f n
-unfolding mask count
-ones-mask f zero = ones-if false
-ones-mask f (suc n) =
-    let below = ones-mask f n in
-    let here = ones-if (f n) in
-    let parts : ones (mask f n + one_if (f n) * 2 ^ n) ≡ ones (one_if (f n)) + ones (mask f n) =
-    ap ones (add_comm (mask f n) (one_if (f n) * 2 ^ n)) ∙ ones_cat n (one_if (f n)) (mask f n) (mask_bound f n) in
-    omega arith
-
--- the bits of a number, counted
-pub ones-bits : (x n : ℕ) → x < 2 ^ n → ones x ≡ count (bit x) n
-ones-bits x n h = ap ones (sym (mask-of-bits x n h)) ∙ ones-mask (bit x) n
-
 -- a number that is not 0 has a bit
 pub some-bit : (x n : ℕ) → 0 < x → x < 2 ^ n → (v : ℕ) × (bit x v ≡ true)
 some-bit x n h l = let low = trailing-lowest n x h l in (_, low.here)
@@ -121,14 +96,3 @@ bit-minus a b n v h l =
     let is = mask-of-bits a n h in
     let e : a - bit_and a b ≡ rest = omega arith in
     ap (λ (x : ℕ). bit x v) e ∙ mask-inside (λ u. bit a u && not (bit b u)) n v l
-
--- one number more of a mask is tested, in vain
-pub tested-more :
-    (test : ℕ → Bool) (asked rest n w : ℕ) → rest < 2 ^ n
-    → ((v : ℕ) → bit asked v ≡ true → bit rest v ≡ false → test v ≡ false)
-    → test w ≡ false → (v : ℕ) → bit asked v ≡ true → bit (rest - one_if (bit rest w) * 2 ^ w) v ≡ false
-    → test v ≡ false
-tested-more test asked rest n w small known none v e out =
-    by-test (eqb w v)
-    (λ t. ap test (sym (eqb-true w v t)) ∙ none)
-    (λ t. known v e (ap (λ (b : Bool). not b && bit rest v) (sym t) ∙ sym (bit-without rest n w v small) ∙ out))

@@ -19,25 +19,15 @@ use Rattle.automaton.proofs.Membership.{clash}
 use Rattle.rule.specs.Rule.{Reading, binds, fires}
 use Rattle.rule.specs.Starts.{with_binding}
 use Rattle.slots.specs.Slots.{held_in}
-use Rattle.firing.specs.Firing.{can_by, ReadBelow}
+use Rattle.firing.specs.Firing.{can_by}
 use Rattle.reach.specs.declared.Start.{Start}
-use Rattle.reach.specs.Readings.{Cans, Reads, Ready, Of}
+use Rattle.reach.specs.Readings.{Cans, NoneJoins, Ready, Of}
 use Rattle.reach.specs.Growing.{Grows}
 use Rattle.reach.specs.Growing.Grows.{here, waits, takes}
 use Rattle.reach.proofs.Growing.{fires-in}
-use Rattle.fills.specs.Filling.{size_of, bound_of, NoneJoins, Without, Lacks, Late}
+use Rattle.reach.proofs.Readings.{read_below}
+use Rattle.fills.specs.Filling.{size_of, bound_of, Without, Lacks, Late}
 use Rattle.fills.proofs.Counting.{count-all, count-nothing, count-more, count_same, some-bit}
-
--- the slot's reading, as a reading of the pattern
-pub read_below :
-    (p : Pattern) (plan bytes : List ℕ) (n c : ℕ) → Of p plan bytes n c → (j : ℕ) (slot : List ℕ) → Reads n j slot
-    → ReadBelow p j (held_in slot).bindings
-read_below p plan bytes n c o j slot r =
-    record {
-      variable = λ b m. let v = r.variable b m in omega (arith, o.variables);
-      below = r.below;
-      latest = r.latest;
-    }
 
 -- what a binding more binds
 pub binds-more : (o : Reading) (v k u : ℕ) → binds (with_binding o v k) u ≡ eqb v u || binds o u
@@ -95,7 +85,7 @@ module _ (plan bytes : List ℕ) (s : Start) (slot : List ℕ) (j x : ℕ) where
   -- a record binds at most one of them, and none where none can fire there and agrees with what is bound
   module _ (ready : Ready plan bytes s slot j) (i left : ℕ) (after : j ≤ i) (inside : i < s.until) (some : 0 < left)
       (lacks : Lacks plan bytes s slot j x i left) (hit : Bool)
-      (none : hit ≡ false → NoneJoins plan bytes i (bit_and (can_by plan s.n s.c bytes i) x) slot) where
+      (none : hit ≡ false → NoneJoins plan bytes i (bit_and (can_by plan s.n s.c bytes i) x) r) where
     taken :
         (p : Pattern) → Of p plan bytes s.n s.c → (o : Reading) (v : ℕ) → Grows p (records_of bytes) r j o i
         → fires p (records_of bytes) o v i ≡ true
@@ -137,16 +127,10 @@ module _ (plan bytes : List ℕ) (s : Start) (slot : List ℕ) (j x : ℕ) where
   -- the same by what was settled once a call
   pub asked-read :
       (cans : List ℕ) → Cans plan bytes s.n s.c cans → (i : ℕ) → i < record_count bytes
-      → NoneJoins plan bytes i (bit_and (get_or cans i 0) x) slot
-      → NoneJoins plan bytes i (bit_and (can_by plan s.n s.c bytes i) x) slot
+      → NoneJoins plan bytes i (bit_and (get_or cans i 0) x) r
+      → NoneJoins plan bytes i (bit_and (can_by plan s.n s.c bytes i) x) r
   asked-read cans settled i l none =
-      subst (λ (can : ℕ). NoneJoins plan bytes i (bit_and can x) slot) (settled.each i l) none
-
-  -- none of fewer variables
-  pub without_fewer :
-      (y from : ℕ) → ((v : ℕ) → bit y v ≡ true → bit x v ≡ true) → Without plan bytes s slot j x from
-      → Without plan bytes s slot j y from
-  without_fewer y from inside w = record { unbound = λ p o q i g l v e. w.unbound p o q i g l v (inside v e) }
+      subst (λ (can : ℕ). NoneJoins plan bytes i (bit_and can x) r) (settled.each i l) none
 
   -- some of the variables need it, so all of them do
   pub late-wider :

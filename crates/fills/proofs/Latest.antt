@@ -30,7 +30,7 @@ use Rattle.reach.proofs.MaskInTurn.{low_bits}
 use Rattle.fills.specs.Filling.{Within, Late}
 use Rattle.fills.specs.Opening.{unjoined_in, up_to, Early, Sure, LastAt}
 use Rattle.fills.proofs.Counting.{some-bit}
-use Rattle.fills.proofs.Lacking.{read_below}
+use Rattle.reach.proofs.Readings.{read_below}
 use Rattle.fills.proofs.Sets.{IsNext, next-below, next-new}
 use Rattle.fills.proofs.OrderMark.{up-to-below, early-held, early-taken, loop-fires}
 

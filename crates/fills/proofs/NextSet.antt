@@ -38,7 +38,8 @@ use Rattle.fills.specs.Opening.Idle.{unable, early}
 use Rattle.fills.specs.Opening.Behind.{kept, taken}
 use Rattle.fills.specs.Opening.Passes.{here as stops, past}
 use Rattle.fills.specs.Opening.Begins.{at_once, later}
-use Rattle.fills.proofs.Lacking.{read_below, binds-more}
+use Rattle.reach.proofs.Readings.{read_below}
+use Rattle.fills.proofs.Lacking.{binds-more}
 use Rattle.fills.proofs.Sets.{IsNext, next-below, next-new, set_before, earlier-in}
 use Rattle.fills.proofs.OrderMark.{all-marked, before-bound}
 use Rattle.fills.proofs.Latest.{last_taken, last-kept}

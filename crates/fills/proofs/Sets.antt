@@ -31,7 +31,8 @@ use Rattle.reach.specs.Growing.Grows.{here, waits, takes}
 use Rattle.reach.proofs.Growing.{grows-later, fires-in}
 use Rattle.fills.specs.Filling.{Within, Without, Late}
 use Rattle.fills.proofs.Counting.{bit-minus}
-use Rattle.fills.proofs.Lacking.{read_below, binds-more}
+use Rattle.reach.proofs.Readings.{read_below}
+use Rattle.fills.proofs.Lacking.{binds-more}
 
 -- ## The variables of the next set
 

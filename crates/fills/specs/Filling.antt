@@ -8,7 +8,6 @@ use Rattle.patterns.specs.declared.Pattern.{Pattern}
 use Rattle.patterns.specs.Patterns.{most_variables}
 use Rattle.rule.specs.Rule.{Reading, binds}
 use Rattle.slots.specs.Slots.{held_in}
-use Rattle.firing.specs.Firing.{joins_by}
 use Rattle.reach.specs.declared.Start.{Start}
 use Rattle.reach.specs.Readings.{Of, Ready, Cans}
 use Rattle.reach.specs.Growing.{Grows}
@@ -20,10 +19,6 @@ size_of x = count (bit x) most_variables
 -- how many of them a reading binds
 abbrev pub bound_of : ℕ → Reading → ℕ
 bound_of x q = count (λ v. bit x v && binds q v) most_variables
-
--- no variable asked agrees at record i with what the slot's reading binds
-pub record NoneJoins (plan bytes : List ℕ) (i asked : ℕ) (slot : List ℕ) : Type 0 where
-  pub each : (v : ℕ) → bit asked v ≡ true → joins_by plan bytes i v (held_in slot).bindings ≡ false
 
 -- The slot's reading, held before record j, becomes none ..
 
@@ -72,3 +67,7 @@ pub record Asks (plan bytes cans : List ℕ) (s : Start) (slot : List ℕ) (j x 
 pub record Found (plan bytes : List ℕ) (s : Start) (slot : List ℕ) (j x from end : ℕ) : Type 0 where
   pub after : from ≤ end
   pub late : Late plan bytes s slot j x end
+
+-- or no reading holds all of x before the record at which it closes
+abbrev pub Never : List ℕ → List ℕ → Start → List ℕ → ℕ → ℕ → Type 0
+Never plan bytes s slot j x = Late plan bytes s slot j x (s.until + 1)

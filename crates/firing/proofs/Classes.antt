@@ -1,13 +1,8 @@
 -- The variables whose own conditions hold of an event: those whose conditions on class hold of the event's class,
 -- settled by the other conditions kind by kind. Assumes nothing.
-use mathlib.Core.Path.{◌≡◌, ◌∙◌, refl, sym, ap, ap₂}
-use mathlib.Core.Bool.{Bool, true, false, not, ◌&&◌, ◌||◌}
-use mathlib.Core.List.{List}
-use Prim.Native.Nat.{ℕ, ◌*◌, ◌/◌, ◌^◌, ◌≤◌, ◌<◌}
-use native.Mathlib.Omega.{arith}
+use Rattle.std.proofs.Common.{◌≡◌, ◌∙◌, refl, sym, ap, ap₂, Bool, true, false, not, ◌&&◌, ◌||◌, List, ℕ, ◌*◌, ◌/◌}
+use Rattle.std.proofs.Common.{◌^◌, ◌≤◌, ◌<◌, arith, eqb, ℤ, pos}
 use borrow.Author.Tests.{eqb-true, not-true}
-use lib.Dec.{eqb}
-use lib.IntN.{ℤ, pos}
 use Rattle.numbers.specs.Numbers.{every}
 use Rattle.numbers.specs.Bits.{bit, mask}
 use Rattle.numbers.proofs.Cases.{by-test}
@@ -137,10 +132,6 @@ module _ (plan bytes : List ℕ) (i n c : ℕ) where
   settled-nothing kind =
       mask-nothing (λ v. bit 0 v && every (kind_holds kind v) c) n (λ v l. ap (λ (t : Bool). t && every (kind_holds kind v) c) (bit-zero v))
 
-  pub settled-inside : (kind can : ℕ) → settled kind can < 2 ^ n
-  unfolding settled_by
-  settled-inside kind can = mask_bound (λ v. bit can v && every (kind_holds kind v) c) n
-
   pub class-inside : Classed plan n c → (b : ℕ) → b < type_places → class_in plan b < 2 ^ n
   unfolding class_mask
   class-inside classed b l = rw (classed.by_class b l) (mask_bound (λ v. every (λ q. class_holds b v (condition_in plan q)) c) n)
@@ -166,11 +157,11 @@ module _ (plan bytes : List ℕ) (i n c : ℕ) where
 
   -- the class, and then kind by kind
   pub all_settled :
-      Sound plan → Classed plan n c → c ≤ most_conditions → (t : ℕ) → t < 256 → t ≡ (record_at bytes i).event_type
-      → settled both_sides (settled 5 (settled 4 (settled 3 (settled 0 (settled 1 (class_in plan (t / types_together)))))))
-      ≡ can_by plan n c bytes i
+      Sound plan → Classed plan n c → c ≤ most_conditions
+      → (t can : ℕ) → t < 256 → t ≡ (record_at bytes i).event_type → can ≡ class_in plan (t / types_together)
+      → settled both_sides (settled 5 (settled 4 (settled 3 (settled 0 (settled 1 can))))) ≡ can_by plan n c bytes i
   unfolding class_mask can_by other_holds own_holds
-  all_settled sound classed few t h e =
+  all_settled sound classed few t can h e is =
       let b = t / types_together in
       let small : b < type_places = omega arith in
       let f0 : ℕ → Bool = λ v. every (λ q. class_holds b v (condition_in plan q)) c in
@@ -179,7 +170,7 @@ module _ (plan bytes : List ℕ) (i n c : ℕ) where
       let f3 : ℕ → Bool = λ v. f2 v && every (kind_holds 3 v) c in
       let f4 : ℕ → Bool = λ v. f3 v && every (kind_holds 4 v) c in
       let f5 : ℕ → Bool = λ v. f4 v && every (kind_holds 5 v) c in
-      ap (λ (x : ℕ). settled both_sides (settled 5 (settled 4 (settled 3 (settled 0 (settled 1 x)))))) (classed.by_class b small)
+      ap (λ (x : ℕ). settled both_sides (settled 5 (settled 4 (settled 3 (settled 0 (settled 1 x)))))) (is ∙ classed.by_class b small)
       ∙ ap (λ (x : ℕ). settled both_sides (settled 5 (settled 4 (settled 3 (settled 0 x))))) (settled-more f0 1)
       ∙ ap (λ (x : ℕ). settled both_sides (settled 5 (settled 4 (settled 3 x)))) (settled-more f1 0)
       ∙ ap (λ (x : ℕ). settled both_sides (settled 5 (settled 4 x))) (settled-more f2 3)

@@ -1,10 +1,7 @@
 -- What a step on v asks of one condition falls into two parts: what the new event alone decides, and what each binding
 -- of the other variable decides together with it. Assumes nothing.
-use mathlib.Core.Path.{◌≡◌, ◌∙◌, refl, sym, ap, ap₂}
-use mathlib.Core.Bool.{Bool, true, false, ◌&&◌, and-true, or-false}
-use mathlib.Core.List.{[], ◌∷◌, map}
-use Prim.Native.Nat.{ℕ}
-use lib.Dec.{eqb}
+use Rattle.std.proofs.Common.{◌≡◌, ◌∙◌, refl, sym, ap, ap₂, Bool, true, false, ◌&&◌, [], ◌∷◌, map, ℕ, eqb}
+use mathlib.Core.Bool.{and-true, or-false}
 use Rattle.numbers.proofs.Cases.{by-test, neither}
 use Rattle.records.specs.declared.Record.{Record}
 use Rattle.patterns.specs.declared.Condition.{Condition}

@@ -1,15 +1,8 @@
 -- The conditions that join a variable to what is bound: one combination by raised numbers, one condition binding by
 -- binding, and all of them by the bits that are left of their mask. Assumes nothing.
-use mathlib.Core.Path.{◌≡◌, ◌∙◌, refl, sym, ap, ap₂}
-use mathlib.Core.Bool.{Bool, true, false, not, ◌&&◌}
-use mathlib.Core.List.{List}
-use Prim.Native.Nat.{ℕ, ◌+◌, ◌-◌, ◌*◌, ◌^◌, ◌≤◌, ◌<◌}
-use native.Mathlib.Nat.{one-mul, lt_of_le_of_lt, sub-le}
-use native.Mathlib.Numerals.{add-one}
-use native.Mathlib.Omega.{arith}
+use Rattle.std.proofs.Common.{◌≡◌, ◌∙◌, refl, sym, ap, ap₂, Bool, true, false, not, ◌&&◌, List, ℕ, ◌+◌, ◌-◌, ◌*◌, ◌^◌}
+use Rattle.std.proofs.Common.{◌≤◌, ◌<◌, one-mul, lt_of_le_of_lt, sub-le, add-one, arith, eqb, pos}
 use borrow.Author.Tests.{ne_eqb, eqb-true}
-use lib.Dec.{eqb}
-use lib.IntN.{pos}
 use Rattle.numbers.specs.Numbers.{every, one_if}
 use Rattle.numbers.specs.Bits.{bit}
 use Rattle.numbers.proofs.Cases.{by-test, by_order, both}

@@ -1,12 +1,9 @@
 -- A slot that holds a reading below record i is one that the tests can look at. Assumes nothing.
-use mathlib.Core.Path.{◌≡◌, ◌∙◌, sym, ap, subst}
-use mathlib.Core.Bool.{Bool, true, ◌||◌, or-true}
-use mathlib.Core.List.{List, Memᴰ}
-use Prim.Native.Nat.{ℕ, ◌+◌, ◌*◌, ◌≤◌, ◌<◌}
-use native.Mathlib.Omega.{arith}
+use Rattle.std.proofs.Common.{◌≡◌, ◌∙◌, sym, ap, subst, Bool, true, ◌||◌, List, ℕ, ◌+◌, ◌*◌, ◌≤◌, ◌<◌, arith, eqb}
+use Rattle.std.proofs.Common.{length}
+use mathlib.Core.Bool.{or-true}
+use mathlib.Core.List.{Memᴰ}
 use borrow.Author.Tests.{eq-eqb}
-use lib.Dec.{eqb}
-use lib.ListN.{length}
 use Rattle.numbers.specs.Bits.{bit}
 use Rattle.numbers.proofs.Bits.{mask-inside}
 use Rattle.records.specs.Records.{record_bytes, record_count}

@@ -1,15 +1,10 @@
 -- A mask of variables, settled by the conditions of a kind, whose bits are taken one by one. Assumes nothing.
-use mathlib.Core.Path.{◌≡◌, ◌∙◌, refl, sym, ap, ap₂, subst}
-use mathlib.Core.Bool.{Bool, true, false, not, ◌&&◌, ◌||◌, and-true, and-false, and_assoc, or-true}
-use mathlib.Core.List.{List}
-use Prim.Native.Nat.{ℕ, suc, ◌-◌, ◌*◌, ◌^◌, ◌≤◌, ◌<◌}
-use native.Mathlib.Nat.{lt_of_le_of_lt, sub-le, pow-suc, one-mul, zero-mul}
-use native.Mathlib.Omega.{arith}
+use Rattle.std.proofs.Common.{◌≡◌, ◌∙◌, refl, sym, ap, ap₂, Bool, true, false, not, ◌&&◌, ◌||◌, List, ℕ, suc, ◌-◌}
+use Rattle.std.proofs.Common.{◌*◌, ◌^◌, ◌≤◌, ◌<◌, lt_of_le_of_lt, sub-le, pow-suc, one-mul, zero-mul, arith, bit_and}
+use Rattle.std.proofs.Common.{eqb, ltb, pos, pow_pos, pow_mono}
+use mathlib.Core.Bool.{and-true, and-false, and_assoc, or-true}
 use borrow.Author.Tests.{eq-eqb, ne_eqb, eqb-true, eqb-false}
-use lib.Bits.{bit_and, and_le_r}
-use lib.Dec.{eqb, ltb}
-use lib.IntN.{pos}
-use lib.Pow.{pow_pos, pow_mono}
+use lib.Bits.{and_le_r}
 use Rattle.numbers.specs.Numbers.{every, one_if}
 use Rattle.numbers.specs.Bits.{bit, mask}
 use Rattle.numbers.proofs.Cases.{by-test, by_order, both, same_test}
@@ -27,7 +22,7 @@ use Rattle.automaton.proofs.Membership.{clash}
 use Rattle.plans.specs.Plan.{class_attribute, other_own, is_other, other_mask, both_sides, condition_in, others_in}
 use Rattle.plans.specs.Plan.{settled, Classed}
 use Rattle.plans.proofs.Own.{settled-holds, settled-fails, settled-mask}
-use Rattle.firing.specs.Firing.{own_holds, other_holds, settled_order, settled_by}
+use Rattle.firing.specs.Firing.{own_holds, other_holds, settled_order, settled_by, Settling}
 use Rattle.firing.proofs.Joins.{less-bit}
 
 -- ## The bits that are left
@@ -110,6 +105,22 @@ module _ (plan bytes : List ℕ) (i n c kind can : ℕ) where
       (every-same (λ q. bit rest q || other_holds plan bytes i kind v q) (other_holds plan bytes i kind v) c (λ q m.
       ap (λ (t : Bool). t || other_holds plan bytes i kind v q) (ap (λ (x : ℕ). bit x q) e ∙ bit-zero q))))
 
+  pub settled-inside : settled_by plan n c bytes i kind can < 2 ^ n
+  unfolding settled_by
+  settled-inside = mask_bound (λ v. bit can v && every (other_holds plan bytes i kind v) c) n
+
+  -- a settled mask can be settled by the next kind
+  pub settling-next : (x : ℕ) → Settling plan n c can bytes i → x < 2 ^ n → Settling plan n c x bytes i
+  settling-next x s inside =
+      record {
+        sound = s.sound;
+        classed = s.classed;
+        variables = s.variables;
+        conditions = s.conditions;
+        inside = inside;
+        here = s.here;
+      }
+
   module _ (rest at : ℕ) (small : rest < 2 ^ c) (here : bit rest at ≡ true) (kinds : OfKind plan kind rest) where
     kinds-less : OfKind plan kind (rest - 2 ^ at)
     kinds-less =
@@ -131,15 +142,15 @@ module _ (plan bytes : List ℕ) (i n c kind can : ℕ) where
         ∙ every-less rest c at small here (other_holds plan bytes i kind v)))
 
     -- a turn of the loop
+    pub rest-turn : (next : ℕ) → next ≡ rest - 2 ^ at → (next < 2 ^ c) × OfKind plan kind next
+    rest-turn next e = (rw e (lt_of_le_of_lt (sub-le rest (2 ^ at)) small), rw e kinds-less)
+
     pub left-turn :
         (left s next : ℕ) → left ≡ left_by rest → s ≡ settled left (condition_in plan at) (record_at bytes i)
         → next ≡ rest - 2 ^ at
-        → (next < 2 ^ c) × OfKind plan kind next × (s ≡ left_by next)
-    left-turn left s next e f g = (
-      rw g (lt_of_le_of_lt (sub-le rest (2 ^ at)) small),
-      subst (OfKind plan kind) (sym g) kinds-less,
-      left_less s (f ∙ ap (λ (x : ℕ). settled x (condition_in plan at) (record_at bytes i)) e) ∙ ap left_by (sym g),
-    )
+        → s ≡ left_by next
+    left-turn left s next e f g =
+        left_less s (f ∙ ap (λ (x : ℕ). settled x (condition_in plan at) (record_at bytes i)) e) ∙ ap left_by (sym g)
 
 -- ## What the raised numbers settle
 

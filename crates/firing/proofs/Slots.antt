@@ -1,12 +1,8 @@
 -- What a held reading decides, case by case: whether a variable leaves its state, and the order mark. Assumes nothing.
 use Rattle.automaton.proofs.All.{implies-yes}
-use mathlib.Core.Path.{◌≡◌, ◌∙◌, ap}
-use mathlib.Core.Bool.{true, false}
-use mathlib.Core.List.{List, Memᴰ}
-use Prim.Native.Nat.{ℕ, zero, suc, ◌+◌, ◌-◌, ◌*◌, ◌≤◌, ◌<◌}
-use native.Mathlib.Nat.{not-suc-le-zero}
-use native.Mathlib.Omega.{arith}
-use lib.Dec.{ltb}
+use Rattle.std.proofs.Common.{◌≡◌, ◌∙◌, ap, true, false, List, ℕ, zero, suc, ◌+◌, ◌-◌, ◌*◌, ◌≤◌, ◌<◌, not-suc-le-zero}
+use Rattle.std.proofs.Common.{arith, ltb}
+use mathlib.Core.List.{Memᴰ}
 use Rattle.numbers.specs.Numbers.{number}
 use Rattle.numbers.specs.Bits.{bit, within, disjoint}
 use Rattle.numbers.proofs.Cases.{by_order}

@@ -8,7 +8,7 @@ use Rattle.numbers.specs.Bits.{bit, mask, within, disjoint}
 use Rattle.records.specs.Records.{record_bytes, record_at}
 use Rattle.patterns.specs.declared.Condition.{Condition}
 use Rattle.patterns.specs.declared.Pattern.{Pattern}
-use Rattle.patterns.specs.Patterns.{most_variables, most_conditions}
+use Rattle.patterns.specs.Patterns.{most_variables, most_conditions, last_attribute}
 use Rattle.patterns.specs.Comparison.{value, order_of, meets, holds, raise}
 use Rattle.automaton.specs.Filtering.{implies, all}
 use Rattle.rule.specs.Rule.{Binding, Reading, last_of}
@@ -42,6 +42,11 @@ other_holds plan bytes i kind v k = implies (is_other kind (condition_in plan k)
 -- the variables of a mask whose conditions of a kind hold of record i
 unfoldable pub settled_by : List ℕ → ℕ → ℕ → List ℕ → ℕ → ℕ → ℕ → ℕ
 settled_by plan n c bytes i kind can = mask (λ v. bit can v && every (other_holds plan bytes i kind v) c) n
+
+-- condition k is one of a kind, and has one of the attributes
+pub record Compares (kind : ℕ) (k : Condition) : Type 0 where
+  pub other : is_other kind k ≡ true
+  pub attribute : k.attribute ≤ last_attribute
 
 -- a plan of n variables and c conditions, a mask of the variables, and record i of a block
 pub record Settling (plan : List ℕ) (n c can : ℕ) (bytes : List ℕ) (i : ℕ) : Type 0 where

@@ -31,6 +31,8 @@ use Rattle.slots.specs.Slots.{Held, slot_bytes, holding, count_in, held_in, slot
 use Rattle.slots.proofs.Slots.{length-held_in}
 use Rattle.firing.specs.Firing.{Fit}
 use Rattle.firing.proofs.Seated.{fit-holding}
+use Rattle.closings.specs.Closings.{gap_mark_by}
+use Rattle.closings.proofs.GapMarks.{gap-mark-by}
 use Rattle.live.specs.Live.{step_by, is_long, long, can_at}
 use Rattle.live.specs.Memory.{Standing, Ready, Stands, Moved}
 use Rattle.live.proofs.Parts.{length-slot_at}
@@ -85,7 +87,7 @@ peak-more p B k = refl
 -- ## What is known before record i
 
 pub record Going (p : Pattern) (bytes : List ℕ) (limit : ℕ) (lent : List ℕ) (i : ℕ) (work result : List ℕ)
-    (half start count : ℕ) (over : Bool) (used readings : ℕ) (short : Bool) (most : ℕ) : Type 0 where
+    (half start count : ℕ) (over : Bool) (used readings most : ℕ) : Type 0 where
   pub scans :
       (n : ℕ) → i + n ≡ suc (length (records_of bytes))
       → forward p (records_of bytes) limit (length lent / 2) ≡ scan p (records_of bytes) limit (length lent / 2) i n
@@ -93,8 +95,7 @@ pub record Going (p : Pattern) (bytes : List ℕ) (limit : ℕ) (lent : List ℕ
   pub small : (r : Reading) → Memᴰ r (live p (records_of bytes) i) → length r ≤ most_bindings
   pub stands : Stands (length work) limit half start count
   pub near : over ≡ false
-  pub able : short ≡ false
-  pub told : Told lent result used readings short (closed p (records_of bytes) i)
+  pub told : Told lent result used readings false (closed p (records_of bytes) i)
   pub room : used ≤ length result
   pub few : readings ≤ used
   pub high : most ≡ peak p (records_of bytes) i
@@ -114,7 +115,7 @@ told_none lent =
 pub going_start :
     (p : Pattern) (bytes : List ℕ) (limit : ℕ) (lent work : List ℕ) → limit ≤ most_live
     → slot_bytes * limit + slot_bytes * limit ≤ length work
-    → Going p bytes limit lent 0 work lent 0 0 0 false 0 0 false 0
+    → Going p bytes limit lent 0 work lent 0 0 0 false 0 0 0
 unfolding live closed peak slots_at forward
 going_start p bytes limit lent work few room =
     record {
@@ -123,7 +124,6 @@ going_start p bytes limit lent work few room =
       small = λ r m. absurd (Memᴰ.not-nil m);
       stands = record { room = room; few = few; side = inl refl; from = omega arith; to = omega arith };
       near = refl;
-      able = refl;
       told = told_none lent;
       room = omega arith;
       few = omega arith;
@@ -132,8 +132,8 @@ going_start p bytes limit lent work few room =
     }
 
 module _ {p : Pattern} {plan bytes : List ℕ} (q : Prepared p plan bytes) {limit : ℕ} {lent : List ℕ} {i : ℕ}
-    {work result : List ℕ} {half start count : ℕ} {over : Bool} {used readings : ℕ} {short : Bool} {most : ℕ}
-    (g : Going p bytes limit lent i work result half start count over used readings short most) where
+    {work result : List ℕ} {half start count : ℕ} {over : Bool} {used readings most : ℕ}
+    (g : Going p bytes limit lent i work result half start count over used readings most) where
   abbrev B : Block
   B = records_of bytes
 
@@ -217,15 +217,18 @@ module _ {p : Pattern} {plan bytes : List ℕ} (q : Prepared p plan bytes) {limi
           let e : start + slot_bytes * gone + slot_bytes * k ≡ start + slot_bytes * (gone + k) = omega arith in
           ap (λ (at : ℕ). is_long (held_in (slot_at work at))) e ∙ slots-short work start count (gone + k) going-short (omega arith))
 
-      module _ {gap full : ℕ} (is_gap : gap ≡ gap_mark p) (is_full : full ≡ 2 ^ p.n - 1) {result' : List ℕ}
+      module _ {gap weight : ℕ} (by_plan : gap ≡ gap_mark_by plan p.n) (is_weight : weight ≡ 2 ^ p.n) {result' : List ℕ}
           {used' readings' : ℕ} {short' : Bool}
-          (wrote : Wrote result result' used readings short used' readings' short'
-          (lines_by full (mark_by bytes gap i) (slots_at work start gone))) where
+          (wrote : Wrote result result' used readings false used' readings' short'
+          (lines_by (weight - 1) (mark_by bytes gap i) (slots_at work start gone))) where
+        is_gap : gap ≡ gap_mark p
+        is_gap = by_plan ∙ gap-mark-by p q.pattern plan q.made
+
         next-told : Told lent result' used' readings' short' (closed p B (suc i))
         next-told =
-            let e : closed p B i ++ lines_by full (mark_by bytes gap i) (slots_at work start gone) ≡ closed p B (suc i) =
+            let e : closed p B i ++ lines_by (weight - 1) (mark_by bytes gap i) (slots_at work start gone) ≡ closed p B (suc i) =
             ap (λ (l : List Line). closed p B i ++ l)
-            ((λ z. lines_by (is_full z) (mark_by bytes (is_gap z) i) (slots_at work start (is_gone z)))
+            ((λ z. lines_by (is_weight z - 1) (mark_by bytes (is_gap z) i) (slots_at work start (is_gone z)))
             ∙ closing-held p q.pattern plan q.made bytes q.times i h work start count g.held)
             ∙ sym (closed-more p B i) in
             subst (λ (l : List Line). Told lent result' used' readings' short' l) e (wrote.behind lent (closed p B i) g.told)
@@ -274,7 +277,7 @@ module _ {p : Pattern} {plan bytes : List ℕ} (q : Prepared p plan bytes) {limi
 
           pub going_on :
               (most' : ℕ) → over' ≡ false → count' ≤ limit → most' ≡ max most count'
-              → Going p bytes limit lent (i + 1) work' result' half' start' count' over' used' readings' short' most'
+              → Going p bytes limit lent (i + 1) work' result' half' start' count' over' used' readings' most'
           going_on most' e l m =
               let few = le-ltb limit (length (live p B (suc i))) (omega (arith, next-count)) in
               let no-10 : is_met p B limit lent_room i 3 ≡ false = met-10 p B limit lent_room i ∙ few in
@@ -288,8 +291,7 @@ module _ {p : Pattern} {plan bytes : List ℕ} (q : Prepared p plan bytes) {limi
                 small = short-live (live p B (suc i)) (sym standing.noted ∙ e);
                 stands = moved.stands l;
                 near = e;
-                able = roomy;
-                told = next-told;
+                told = subst (λ (s : Bool). Told lent result' used' readings' s (closed p B (suc i))) roomy next-told;
                 room = wrote.room;
                 few = wrote.few;
                 high = m ∙ max_comm most count' ∙ (λ z. max (next-count z) (g.high z)) ∙ sym (peak-more p B i);
@@ -298,10 +300,10 @@ module _ {p : Pattern} {plan bytes : List ℕ} (q : Prepared p plan bytes) {limi
 
   -- ## The end
 
-  module _ (h : record_count bytes ≤ i) (up_to : i ≤ record_count bytes) {full : ℕ} (is_full : full ≡ 2 ^ p.n - 1)
+  module _ (h : record_count bytes ≤ i) (up_to : i ≤ record_count bytes) {weight : ℕ} (is_weight : weight ≡ 2 ^ p.n)
       {result' : List ℕ} {used' readings' : ℕ} {short' : Bool}
-      (wrote : Wrote result result' used readings short used' readings' short'
-      (lines_by full end_mark (slots_at work start count))) where
+      (wrote : Wrote result result' used readings false used' readings' short'
+      (lines_by (weight - 1) end_mark (slots_at work start count))) where
     at-end : i ≡ length B
     at-end = omega (arith, length-records bytes)
 
@@ -315,8 +317,8 @@ module _ {p : Pattern} {plan bytes : List ℕ} (q : Prepared p plan bytes) {limi
     all_told : Told lent result' used' readings' short' (report p B)
     unfolding report
     all_told =
-        let e : closed p B i ++ lines_by full end_mark (slots_at work start count) ≡ closed p B (suc (length B)) =
-        (λ z. closed p B (at-end z) ++ lines_by (is_full z) end_mark ((g.held ∙ ap (λ (k : ℕ). map holding (live p B k)) at-end) z))
+        let e : closed p B i ++ lines_by (weight - 1) end_mark (slots_at work start count) ≡ closed p B (suc (length B)) =
+        (λ z. closed p B (at-end z) ++ lines_by (is_weight z - 1) end_mark ((g.held ∙ ap (λ (k : ℕ). map holding (live p B k)) at-end) z))
         ∙ ap (λ (l : List Line). closed p B (length B) ++ l) (lines-held p q.pattern.few end_mark (live p B (length B)) ∙ sym closing_end)
         ∙ sym (closed-more p B (length B)) in
         subst (λ (l : List Line). Told lent result' used' readings' short' l) e (wrote.behind lent (closed p B i) g.told)

@@ -2,20 +2,25 @@
 use mathlib.Core.Path.{◌≡◌, refl, sym, ap, subst, ◌∙◌}
 use mathlib.Core.Bool.{true, false, ◌||◌}
 use mathlib.Core.List.{List, ◌∷◌, ◌++◌, append_assoc}
-use Prim.Native.Nat.{ℕ, zero, suc, ◌+◌, ◌-◌, ◌*◌, ◌/◌, ◌≤◌, ◌<◌}
+use Prim.Native.Nat.{ℕ, zero, suc, ◌+◌, ◌-◌, ◌*◌, ◌/◌, ◌≤◌}
 use native.Mathlib.Omega.{arith}
-use borrow.Author.Tests.{lt-ltb, le-ltb, ltb-false, eqb-true, eqb-false}
+use borrow.Author.Tests.{le-ltb, ltb-false, eqb-true, eqb-false}
 use lib.Dec.{eqb, ltb}
 use lib.ListN.{length, take, replicate, length-append, length-replicate, replicate-append-replicate}
 use Rattle.numbers.specs.Numbers.{bytes_of, written}
 use Rattle.numbers.proofs.Cases.{by-test, by_order, neither}
+use Rattle.std.specs.Prelude.{Result, Ok, Err, MatchResult}
 use Rattle.records.specs.declared.Answer.{Answer}
 use Rattle.records.specs.Blocks.{refused, block_answer}
+use Rattle.records.specs.declared.refusals.Refusal.{Refusal}
+use Rattle.records.specs.declared.refusals.Refusal.TheVariants.{PatternLength, Header, Variable, Condition, BlockLength}
+use Rattle.records.specs.declared.refusals.Refusal.TheVariants.{Record, Time, Limit, Bindings, Live, ResultRoom, SliceRoom}
+use Rattle.records.specs.declared.refusals.Refusal.TheVariants.{Line, Index}
+use Rattle.records.specs.Refusals.{code_of, place_of, judged_as}
 use Rattle.records.proofs.Blocks
 use Rattle.patterns.specs.declared.Pattern.{Pattern}
 use Rattle.patterns.specs.declared.Checked.{Checked}
-use Rattle.patterns.specs.Checked.{pattern_answer, InOrder}
-use Rattle.patterns.proofs.InOrder.{accepted-in-order}
+use Rattle.patterns.specs.Checked.{pattern_answer, checked_of, InOrder}
 use Rattle.rule.specs.Rule.{pack}
 use Rattle.rule.specs.Promises.{Outcome, Forward}
 use Rattle.rule.specs.Computed.{forward}
@@ -25,7 +30,7 @@ use Rattle.rule.proofs.ForwardAnswers.{forward-is}
 use Rattle.rule.proofs.Inputs.{input-pattern, input-block, input-in-order, times-never-fall}
 use Rattle.slots.proofs.Results.{length-bytes_of, bytes_of-append, take-written-all, length-written}
 use Rattle.plans.specs.Plan.{IsPlan}
-use Rattle.forward.specs.Passes.{Prepared, Ran, limit_broken, Finished}
+use Rattle.forward.specs.Passes.{Prepared, Ran, limit_broken, Finished, answer_of, Called}
 
 -- ## Bytes that are 0
 
@@ -69,19 +74,6 @@ done-bytes lent result numbers used u w =
     (λ z. take (e z) (w z)) ∙ take-written-all lent 0 (bytes_of numbers) (omega arith)
 
 -- ## Row 8
-
-module _ (limit lent : ℕ) where
-  pub broken-none : limit < 1 → true ≡ limit_broken limit lent
-  unfolding limit_broken
-  broken-none h = rw (lt-ltb limit 1 h)
-
-  pub broken-many : 1 ≤ limit → most_live < limit → true ≡ limit_broken limit lent
-  unfolding limit_broken
-  broken-many h k = rw (le-ltb limit 1 h, lt-ltb most_live limit k)
-
-  pub broken-room : 1 ≤ limit → limit ≤ most_live → ltb lent (work_per_reading * limit) ≡ limit_broken limit lent
-  unfolding limit_broken
-  broken-room h k = rw (le-ltb limit 1 h, le-ltb most_live limit k)
 
 pub limit-bad : (limit lent : ℕ) → limit_broken limit lent ≡ true → ¬ LimitInOrder limit lent
 unfolding limit_broken
@@ -162,12 +154,6 @@ module _ (pattern block : List ℕ) (limit lent_work lent_result : ℕ) (answer 
 
 -- ## From the calls of the checks
 
-pub pattern-checked :
-    (pattern : List ℕ) (checked : Checked) → checked ≡ pattern_answer pattern → checked.code ≡ 0
-    → InOrder checked.pattern
-pattern-checked pattern checked e z =
-    subst (λ (k : Checked). InOrder k.pattern) (sym e) (accepted-in-order pattern (ap (λ (k : Checked). k.code) (sym e) ∙ z))
-
 pub block-prepared :
     (block : List ℕ) (judged : Answer) (p : Pattern) (plan : List ℕ) → InOrder p → IsPlan p plan
     → judged ≡ block_answer block → judged.code ≡ 0
@@ -186,23 +172,63 @@ done-room {lent = lent} {answer = answer} ran z =
     let size = ap length d.told ∙ length-written lent 0 (bytes_of numbers) (omega arith) (omega (arith, length-bytes_of numbers, d.fits)) in
     omega (arith, d.used, d.fits)
 
-pub call-passed :
-    (pattern block : List ℕ) (limit lent_work : ℕ) (lent told : List ℕ) (answer passed : Answer) (work result : List ℕ)
-    (checked : Checked) (judged : Answer) → work ≡ zeros lent_work
-    → checked ≡ pattern_answer pattern
-    → checked.code ≡ 0
-    → judged ≡ block_answer block
-    → judged.code ≡ 0
-    → limit_broken limit lent_work ≡ false
-    → length told ≡ length lent
-    → answer ≡ passed
-    → Ran checked.pattern block limit lent told passed
-    → Finished passed told result
-    → ForwardCall pattern block limit lent_work (length lent) answer work result
-call-passed pattern block limit lent_work lent told answer passed work result checked judged w cp cz bp bz l kept same ran f =
-    subst (λ (a : Answer). ForwardCall pattern block limit lent_work (length lent) a work result) (sym same)
-    (call-ran pattern block limit lent_work (length lent) passed work result w
-    (ap (λ (k : Checked). k.code) (sym cp) ∙ cz)
-    (ap (λ (a : Answer). a.code) (sym bp) ∙ bz)
-    lent told refl kept l
-    (subst (λ (k : Checked). Ran k.pattern block limit lent told passed) cp ran) f)
+-- a call that made no pass
+pub code-some : (r : Refusal) → ¬ (code_of r ≡ 0)
+code-some PatternLength z = omega arith
+code-some Header z = omega arith
+code-some (Variable v) z = omega arith
+code-some (Condition j) z = omega arith
+code-some BlockLength z = omega arith
+code-some (Record i) z = omega arith
+code-some (Time i) z = omega arith
+code-some Limit z = omega arith
+code-some (Bindings i) z = omega arith
+code-some (Live i) z = omega arith
+code-some ResultRoom z = omega arith
+code-some SliceRoom z = omega arith
+code-some (Line l) z = omega arith
+code-some Index z = omega arith
+
+pub answer-of :
+    (r : Result Answer Refusal) (a : Answer) → MatchResult r (λ x. a ≡ x) (λ e. a ≡ refused (code_of e) (place_of e))
+    → a ≡ answer_of r
+answer-of (Ok x) a h = h
+answer-of (Err e) a h = h
+
+module _ {pattern block : List ℕ} {limit lent_work : ℕ} {lent : List ℕ} where
+  pub called-pattern :
+      (r : Refusal) → checked_of (Err r) ≡ pattern_answer pattern
+      → Called pattern block limit lent_work lent lent (answer_of (Err r))
+  called-pattern r e =
+      Called.bad_pattern (λ z. code-some r (ap (λ (k : Checked). k.code) e ∙ z)) (ap (λ (k : Checked). refused k.code k.place) e) refl
+
+  pub called-block :
+      (r : Refusal) → (pattern_answer pattern).code ≡ 0 → judged_as (Err r) ≡ block_answer block
+      → Called pattern block limit lent_work lent lent (answer_of (Err r))
+  called-block r p e = Called.bad_block p (λ z. code-some r (ap (λ (a : Answer). a.code) e ∙ z)) e refl
+
+  -- a call that succeeds told no more than there is room
+  pub called-room :
+      {told : List ℕ} {answer : Answer} → Called pattern block limit lent_work lent told answer → answer.code ≡ 0
+      → 2 * answer.used ≤ length told
+  called-room (Called.bad_pattern n e k) z = absurd (n (sym (ap (λ (a : Answer). a.code) e) ∙ z))
+  called-room (Called.bad_block p n e k) z = absurd (n (sym (ap (λ (a : Answer). a.code) e) ∙ z))
+  called-room (Called.bad_limit p b l e k) z = absurd (let q = ap (λ (a : Answer). a.code) e in omega arith)
+  called-room (Called.passed p b l ran k) z = done-room ran z
+
+  -- lent memory is cleared behind it
+  pub call-made :
+      {told : List ℕ} {answer : Answer} {work result : List ℕ} → work ≡ zeros lent_work
+      → Called pattern block limit lent_work lent told answer → Finished answer told result
+      → ForwardCall pattern block limit lent_work (length lent) answer work result
+  call-made {told} {answer} {work} {result} w (Called.bad_pattern n e k) f =
+      call-pattern pattern block limit lent_work (length lent) answer work result w n e
+      (f.cleared (λ z. n (sym (ap (λ (a : Answer). a.code) e) ∙ z)) ∙ ap (λ (m : ℕ). replicate m 0) k)
+  call-made {told} {answer} {work} {result} w (Called.bad_block p n e k) f =
+      call-block pattern block limit lent_work (length lent) answer work result w p n e
+      (f.cleared (λ z. n (sym (ap (λ (a : Answer). a.code) e) ∙ z)) ∙ ap (λ (m : ℕ). replicate m 0) k)
+  call-made {told} {answer} {work} {result} w (Called.bad_limit p b l e k) f =
+      call-limit pattern block limit lent_work (length lent) answer work result w p b l e
+      (f.cleared (λ z. let q = ap (λ (a : Answer). a.code) e in omega arith) ∙ ap (λ (m : ℕ). replicate m 0) k)
+  call-made {told} {answer} {work} {result} w (Called.passed p b l ran k) f =
+      call-ran pattern block limit lent_work (length lent) answer work result w p b lent told refl k l ran f

@@ -1,10 +1,8 @@
 -- How many readings close at a record: all at a gap, those in front that are late at an event. Assumes nothing.
-use mathlib.Core.Path.{◌≡◌, sym, ap}
-use mathlib.Core.Bool.{Bool, true, false, not}
+use mathlib.Core.Path.{◌≡◌}
+use mathlib.Core.Bool.{Bool, true, false}
 use mathlib.Core.List.{List}
-use Prim.Native.Nat.{ℕ, ◌+◌, ◌*◌, ◌≤◌, ◌<◌}
-use native.Mathlib.Omega.{arith}
-use Rattle.numbers.proofs.First.{first-at, first-none}
+use Prim.Native.Nat.{ℕ, ◌+◌, ◌*◌}
 use Rattle.slots.specs.Slots.{slot_bytes, held_in, slot_at}
 use Rattle.live.specs.Live.{is_event_by}
 use Rattle.forward.specs.Closing.{mark_by, is_late, first_in_time, gone_by}
@@ -12,17 +10,6 @@ use Rattle.forward.specs.Closing.{mark_by, is_late, first_in_time, gone_by}
 module _ (bytes : List ℕ) (i duration : ℕ) (work : List ℕ) (src count : ℕ) where
   abbrev pub late_at : ℕ → Bool
   late_at k = is_late bytes i duration (held_in (slot_at work (src + slot_bytes * k)))
-
-  pub stops_at :
-      (k : ℕ) → k < count → ((j : ℕ) → j < k → late_at j ≡ true) → late_at k ≡ false
-      → k ≡ first_in_time bytes i duration work src count
-  unfolding first_in_time
-  stops_at k h f e = sym (first-at (λ j. not (late_at j)) count k h (λ j l. ap not (f j l)) (ap not e))
-
-  pub stops-never :
-      (k : ℕ) → count ≤ k → ((j : ℕ) → j < k → late_at j ≡ true) → count ≡ first_in_time bytes i duration work src count
-  unfolding first_in_time
-  stops-never k h f = sym (first-none (λ j. not (late_at j)) count (λ j l. ap not (f j (omega arith))))
 
   pub gone-event :
       is_event_by bytes i ≡ true → gone_by bytes i duration work src count ≡ first_in_time bytes i duration work src count

@@ -1,8 +1,7 @@
 -- Whether the reading that a slot holds is late, by the time of its first record. Assumes nothing.
 use mathlib.Core.Path.{◌≡◌, refl, sym, ap, ap₂, ◌∙◌}
-use mathlib.Core.Bool.{false}
 use mathlib.Core.List.{List}
-use Prim.Native.Nat.{ℕ, zero, suc, ◌+◌, ◌-◌, ◌^◌, ◌%◌, ◌≤◌, ◌<◌}
+use Prim.Native.Nat.{ℕ, zero, suc, ◌+◌, ◌-◌, ◌^◌, ◌%◌, ◌≤◌}
 use native.Mathlib.Omega.{arith}
 use borrow.Author.Tests.{lt-ltb, le-ltb}
 use lib.Dec.{ltb}
@@ -32,11 +31,8 @@ module _ (bytes : List ℕ) (i duration : ℕ) (slot : List ℕ) (start : ℕ) (
   unfolding is_late
   late-times = ap₂ ltb (ap (λ (n : ℕ). n + duration) (p ∙ ap (λ (k : ℕ). (record_at bytes k).time) (e ∙ sym (start-held slot h)))) q
 
-  pub late-never : b ≤ a → false ≡ is_late bytes i duration (held_in slot)
-  late-never l = sym (le-ltb (a + duration) b (omega arith)) ∙ late-times
-
-  pub late-held : a < b → ltb duration (b - a) ≡ is_late bytes i duration (held_in slot)
-  late-held l =
+  pub late-held : ltb duration (b - a) ≡ is_late bytes i duration (held_in slot)
+  late-held =
       by_order duration (b - a)
       (λ m. lt-ltb duration (b - a) m ∙ sym (lt-ltb (a + duration) b (omega arith)) ∙ late-times)
       (λ m. le-ltb duration (b - a) m ∙ sym (le-ltb (a + duration) b (omega arith)) ∙ late-times)

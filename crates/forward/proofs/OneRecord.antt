@@ -5,13 +5,11 @@ use mathlib.Core.Logic.{◌⊎◌, inl, inr}
 use mathlib.Core.Bool.{Bool, true, false, not, ◌&&◌, ◌||◌, true≢false, and-false}
 use mathlib.Core.List.Memᴰ
 use mathlib.Core.List.{List, [], ◌∷◌, map, Memᴰ}
-use Prim.Native.Nat.{ℕ, zero, suc, ◌+◌, ◌-◌, ◌*◌, ◌^◌, ◌≤◌, ◌<◌}
-use native.Mathlib.Nat.{add-zero, add-suc}
+use Prim.Native.Nat.{ℕ, suc, ◌+◌, ◌-◌, ◌*◌, ◌^◌, ◌≤◌, ◌<◌}
 use native.Mathlib.Omega.{arith}
 use borrow.Author.Tests.{lt-ltb, le-ltb, eq-eqb, ne_eqb, not-false, not-true}
 use lib.Dec.{ltb, eqb}
 use lib.ListN.{length, take, drop, get_or, length-map}
-use lib.Seq.{take-append-le, take_all}
 use Rattle.numbers.specs.Numbers.{first}
 use Rattle.numbers.proofs.Cases.{by-test, by_order}
 use Rattle.numbers.proofs.First.{first-bound, first-fails, first_passes}
@@ -36,18 +34,8 @@ use Rattle.live.proofs.Steps.{step-idle}
 use Rattle.live.proofs.CanAt.{can-event, can-gap}
 use Rattle.forward.specs.Closing.{mark_by, is_late, first_in_time, gone_by, lines_by}
 use Rattle.forward.proofs.ClosingCount.{late_at, gone-event, gone-gap, mark-event, mark-gap}
+use Rattle.forward.proofs.Lines.{slots-take}
 use Rattle.forward.proofs.HeldByRule.{lines-held, step-held, event-held, late_is, live-late}
-
-slots-take : (work : List ℕ) (at m n : ℕ) → slots_at work at m ≡ take m (slots_at work at (m + n))
-unfolding slots_at
-slots-take work at m zero =
-    sym
-    (ap (λ (k : ℕ). take m (slots_at work at k)) (add-zero m)
-    ∙ take_all m (slots_at work at m) (omega (arith, length-slots_at work at m)))
-slots-take work at m (suc n) =
-    slots-take work at m n
-    ∙ sym (take-append-le m (slots_at work at (m + n)) (held_in (slot_at work (at + slot_bytes * (m + n))) ∷ []) (omega (arith, length-slots_at work at (m + n))))
-    ∙ ap (λ (k : ℕ). take m (slots_at work at k)) (sym (add-suc m n))
 
 slots-none : (work : List ℕ) (at : ℕ) → slots_at work at 0 ≡ []
 unfolding slots_at

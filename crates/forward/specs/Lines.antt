@@ -1,7 +1,10 @@
 -- Reported readings put one after the other into a result.
-use Rattle.std.specs.Prelude.{◌≡◌, Bool, false, List, ◌++◌, ℕ, ◌*◌, ◌/◌, ◌≤◌, ltb, length}
+use Rattle.std.specs.Prelude.{◌≡◌, Bool, true, false, List, ◌++◌, Result, Ok, Err, ℕ, ◌*◌, ◌/◌, ◌≤◌, ltb, length}
 use Rattle.numbers.specs.Numbers.{bytes_of, written}
+use Rattle.records.specs.declared.refusals.Refusal.{Refusal}
+use Rattle.records.specs.declared.refusals.Refusal.TheVariants.{ResultRoom}
 use Rattle.rule.specs.Rule.{Line, pack}
+use Rattle.forward.specs.declared.Tell.{Tell}
 
 -- the lines reported so far: whether they fit, and then the bytes and lines counted and the bytes written
 pub record Told (lent result : List ℕ) (used readings : ℕ) (short : Bool) (out : List Line) : Type 0 where
@@ -17,3 +20,8 @@ pub record Wrote (old new : List ℕ) (u n : ℕ) (s : Bool) (u' n' : ℕ) (s' :
   pub size : length new ≡ length old
   pub room : u' ≤ length new
   pub few : n' ≤ u'
+
+-- the lines `more` were reported behind those of `t`, or the result is too short for them
+abbrev pub Reported : List ℕ → List ℕ → Tell → Result Tell Refusal → List Line → Type 0
+Reported old new t (Ok t') more = Wrote old new t.used t.readings false t'.used t'.readings false more
+Reported old new t (Err r) more = (r ≡ ResultRoom) × Wrote old new t.used t.readings false 0 0 true more

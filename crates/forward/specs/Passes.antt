@@ -1,14 +1,16 @@
 -- What the pass takes, and what it answers.
-use Rattle.std.specs.Prelude.{◌≡◌, Bool, ◌||◌, List, ◌++◌, ℕ, ◌-◌, ◌*◌, ◌/◌, ◌≤◌, ltb, length, take, replicate}
+use Rattle.std.specs.Prelude.{◌≡◌, Bool, true, false, ◌||◌, List, ◌++◌, Result, Ok, Err, ℕ, ◌-◌, ◌*◌, ◌/◌, ◌≤◌, ltb, length, take, replicate}
 use Rattle.numbers.specs.Numbers.{bytes_of, written}
 use Rattle.records.specs.declared.Answer.{Answer}
 use Rattle.records.specs.Records.{record_count, records_of}
-use Rattle.records.specs.Blocks.{most_records}
+use Rattle.records.specs.Blocks.{most_records, refused, block_answer}
+use Rattle.records.specs.declared.refusals.Refusal.{Refusal}
+use Rattle.records.specs.Refusals.{code_of, place_of}
 use Rattle.patterns.specs.declared.Pattern.{Pattern}
-use Rattle.patterns.specs.Checked.{InOrder}
+use Rattle.patterns.specs.Checked.{InOrder, pattern_answer}
 use Rattle.rule.specs.Rule.{Line, TimesNeverFall, pack}
 use Rattle.rule.specs.Computed.{forward}
-use Rattle.rule.specs.Calls.{most_live, work_per_reading}
+use Rattle.rule.specs.Calls.{most_live, work_per_reading, pattern_in}
 use Rattle.plans.specs.Plan.{IsPlan}
 
 -- a checked pattern with its plan, and a checked block
@@ -44,3 +46,27 @@ pub record Finished (answer : Answer) (told result : List ℕ) : Type 0 where
 -- rule 8.8: the limit or the working memory is not in order
 unfoldable pub limit_broken : ℕ → ℕ → Bool
 limit_broken limit lent = ltb limit 1 || (ltb most_live limit || ltb lent (work_per_reading * limit))
+
+-- the answer of what succeeds or is refused
+abbrev pub answer_of : Result Answer Refusal → Answer
+answer_of (Ok answer) = answer
+answer_of (Err r) = refused (code_of r) (place_of r)
+
+-- what a call answers: the pattern is judged first, then the block, then the limit, and the pass answers the rest
+pub data Called (pattern block : List ℕ) (limit lent_work : ℕ) (lent told : List ℕ) (answer : Answer) : Type 0 where
+  bad_pattern :
+      ¬ ((pattern_answer pattern).code ≡ 0)
+      → answer ≡ refused (pattern_answer pattern).code (pattern_answer pattern).place → length told ≡ length lent
+      → Called pattern block limit lent_work lent told answer
+  bad_block :
+      (pattern_answer pattern).code ≡ 0 → ¬ ((block_answer block).code ≡ 0) → answer ≡ block_answer block
+      → length told ≡ length lent
+      → Called pattern block limit lent_work lent told answer
+  bad_limit :
+      (pattern_answer pattern).code ≡ 0 → (block_answer block).code ≡ 0 → limit_broken limit lent_work ≡ true
+      → answer ≡ refused 8 0 → length told ≡ length lent
+      → Called pattern block limit lent_work lent told answer
+  passed :
+      (pattern_answer pattern).code ≡ 0 → (block_answer block).code ≡ 0 → limit_broken limit lent_work ≡ false
+      → Ran (pattern_in pattern) block limit lent told answer → length told ≡ length lent
+      → Called pattern block limit lent_work lent told answer

@@ -6,7 +6,7 @@ use Prim.Native.Nat.{ℕ, zero, suc, ◌+◌, ◌-◌, ◌^◌, ◌≤◌, ◌<�
 use native.Mathlib.Omega.{arith}
 use borrow.Author.Tests.{lt-ltb, eq-eqb, ne_eqb}
 use lib.Dec.{eqb, ltb}
-use lib.ListN.{length, get_or}
+use lib.ListN.{get_or}
 use Rattle.numbers.specs.Numbers.{upto, count, sum, one_if}
 use Rattle.numbers.proofs.Cases.{by-test, by_order}
 use Rattle.numbers.proofs.Count.{count-bound, count-more}
@@ -49,10 +49,6 @@ class-bound t =
 -- nothing more
 same : (x : ℕ) → x ≡ x + one_if false
 same x = omega arith
-
-pub counts-size : (block : List ℕ) (n : ℕ) → length (counts_up_to block n) ≡ classes
-unfolding counts_up_to upto
-counts-size block n = refl
 
 -- what stands at each place, and beyond the last
 pub counts-at : (block : List ℕ) (n k : ℕ) → k < classes → get_or (counts_up_to block n) k 0 ≡ count_up_to block n k

@@ -9,13 +9,10 @@ use borrow.Author.Tests.{eq-eqb, ne_eqb, lt-ltb, le-ltb, eqb-true, eqb-false}
 use lib.Dec.{eqb}
 use lib.ListN.{length, get_or}
 use Rattle.numbers.specs.Numbers.{number, field}
-use Rattle.numbers.specs.Bits.{bit}
 use Rattle.numbers.proofs.Cases.{by-test}
 use Rattle.numbers.proofs.Parts.{part}
-use Rattle.patterns.specs.declared.Condition.{Condition}
 use Rattle.index.specs.Index.{index_bytes, classes, front, back, events_by, cores_field}
-use Rattle.index.specs.Index.{core_by, index_zero, index_broken, cores, core_attribute, class_attribute, equals, lacks}
-use Rattle.index.specs.Index.{rules_out}
+use Rattle.index.specs.Index.{index_zero, index_broken, core_attribute, class_attribute, lacks}
 use Rattle.index.proofs.Bytes.{number-10, number-9, number-last}
 
 -- ## Refusal 15
@@ -93,10 +90,8 @@ module _ (index : List ℕ) (class : ℕ) where
         ∙ part (h * 2 ^ 16 + l) (2 ^ 13) (2 ^ 15) (h / 2 ^ 12) (h % 2 ^ 12 * 2 + l / 2 ^ 15) (l % 2 ^ 15)
         (omega arith) (omega arith) (omega arith))
 
-    pub events-5 : ¬ (class ≡ 0) → ¬ (class ≡ 1) → ¬ (class ≡ 2) → ¬ (class ≡ 3) → ¬ (class ≡ 4) → class < classes
-        → l / 2 ^ 2 % 2 ^ 13 ≡ events_by index class
-    events-5 a b c d f m =
-        let e : class ≡ 5 = omega arith in
+    pub events-5 : class ≡ 5 → l / 2 ^ 2 % 2 ^ 13 ≡ events_by index class
+    events-5 e =
         sym
         (events-at 5 e (omega arith)
         ∙ part (h * 2 ^ 16 + l) (2 ^ 13) (2 ^ 2) (h * 2 + l / 2 ^ 15) (l / 2 ^ 2 % 2 ^ 13) (l % 2 ^ 2)
@@ -126,41 +121,10 @@ module _ (index : List ℕ) where
       (ap (λ (x : ℕ). field 64 2 x) (number-9 index ∙ sym (ap₂ (λ (x y : ℕ). x * 2 ^ 64 + y) d e))
       ∙ cores-joint f r c b)
 
-  pub core-above : (core : ℕ) → cores ≤ core → false ≡ core_by index core
-  unfolding core_by
-  core-above core l = rw (le-ltb core cores l)
-
-  pub core_at : (core : ℕ) → core < cores → bit (cores_field index) (cores - 1 - core) ≡ core_by index core
-  unfolding core_by
-  core_at core l = rw (lt-ltb core cores l)
-
 -- ## What an index lacks
 
 module _ (index : List ℕ) (attribute value : ℕ) where
-  pub lacks-core : attribute ≡ core_attribute → lacks index attribute value ≡ not (core_by index value)
-  unfolding lacks
-  lacks-core e = rw (eq-eqb attribute core_attribute e, lacks)
-
-  pub lacks-class : attribute ≡ class_attribute → lacks index attribute value ≡ eqb (events_by index value) 0
-  unfolding lacks
-  lacks-class e = rw (ne_eqb attribute core_attribute (λ z. omega arith), eq-eqb attribute class_attribute e, lacks)
-
   pub lacks-other :
       ¬ (attribute ≡ core_attribute) → ¬ (attribute ≡ class_attribute) → lacks index attribute value ≡ false
   unfolding lacks
   lacks-other n m = rw (ne_eqb attribute core_attribute n, ne_eqb attribute class_attribute m, lacks)
-
--- ## What it rules out
-
-module _ (index : List ℕ) (k : Condition) where
-  pub not-constant : ¬ (k.form ≡ 0) → rules_out index k ≡ false
-  unfolding rules_out
-  not-constant n = rw (ne_eqb k.form 0 n)
-
-  pub not-equals : k.form ≡ 0 → ¬ (k.operator ≡ equals) → rules_out index k ≡ false
-  unfolding rules_out
-  not-equals e n = rw (eq-eqb k.form 0 e, ne_eqb k.operator equals n)
-
-  pub by-lack : k.form ≡ 0 → k.operator ≡ equals → rules_out index k ≡ lacks index k.attribute k.constant
-  unfolding rules_out
-  by-lack e f = rw (eq-eqb k.form 0 e, eq-eqb k.operator equals f)

@@ -9,7 +9,11 @@ use native.Mathlib.Decide.{ℕ_discrete}
 use native.Mathlib.Omega.{arith}
 use Rattle.numbers.proofs.Cases.{by-test, by_order}
 use Rattle.records.specs.declared.Answer.{Answer}
+use Rattle.std.specs.Prelude.{Result, Ok, Err}
 use Rattle.records.specs.Blocks.{refused, block_answer}
+use Rattle.records.specs.declared.refusals.Refusal.{Refusal}
+use Rattle.records.specs.Refusals.{judged_as}
+use Rattle.index.specs.Upto.{Filled}
 use Rattle.patterns.specs.declared.Pattern.{Pattern}
 use Rattle.patterns.specs.Checked.{condition_at, pattern_answer}
 use Rattle.automaton.proofs.Membership.{clash}
@@ -42,6 +46,14 @@ module _ (block : List ℕ) (lent : ℕ) where
       → MakePromise block lent answer index
   bad-block h is n e r =
       MakePromise.refused_block h (λ z. n (sym (ap (λ (a : Answer). a.code) is) ∙ z)) (e ∙ sym is) r
+
+  -- from a slice that was cleared
+  pub filled-made :
+      (old new : List ℕ) (made : Result ℕ Refusal) → lent ≡ index_bytes → old ≡ zeros lent → Filled block old new made
+      → MakePromise block lent (judged_as made) new
+  filled-made old new (Ok n) h z f =
+      MakePromise.made h f.1 (λ i. record { code = 0; place = 0; used = f.0 i; readings = 0; peak = 0 }) f.2
+  filled-made old new (Err r) h z f = bad-block h f.0 f.1 refl (f.2 ∙ z)
 
   pub make-met : (answer : Answer) × (index : List ℕ) × MakePromise block lent answer index
   make-met = go (ℕ_discrete lent index_bytes) (ℕ_discrete (block_answer block).code 0)

@@ -1,21 +1,22 @@
 -- How far the maker has come. Assumes nothing.
 use mathlib.Core.Path.{◌≡◌, ◌∙◌, ap, subst}
+use mathlib.Core.Bool.{Bool, false}
 use mathlib.Core.List.{List}
 use Prim.Native.Nat.{ℕ, ◌+◌, ◌≤◌, ◌<◌}
 use native.Mathlib.Omega.{arith}
 use borrow.Author.Count.{below_more}
-use lib.ListN.{length, get_or, replicate}
+use lib.ListN.{get_or, replicate}
 use Rattle.numbers.proofs.Cases.{by_order}
 use Rattle.records.specs.Records.{record_at, record_count}
 use Rattle.records.specs.Blocks.{most_records, record_refusal}
 use Rattle.index.specs.Index.{cores, cores_up_to}
 use Rattle.index.specs.Upto.{counts_up_to, types_up_to, fold_types, seen_up_to, marked_bits, Counted}
-use Rattle.index.proofs.Cores.{seen_start, seen_size, bits-all}
-use Rattle.index.proofs.Types.{types-start, types-size, types-bound, fold-types}
+use Rattle.index.proofs.Cores.{seen_start, bits-all}
+use Rattle.index.proofs.Types.{types-start, types-bound, fold-types}
 
 -- one record more
 pub counted_next :
-    (block : List ℕ) (n : ℕ) (types more seen marked : List ℕ) → Counted block n types seen
+    (block : List ℕ) (n : ℕ) (types more : List ℕ) (seen marked : List Bool) → Counted block n types seen
     → n < record_count block
     → record_refusal block n ≡ 0
     → (record_at block n).event_type < 256
@@ -33,21 +34,18 @@ counted_next block n types more seen marked c l good small e f =
 
 -- before the first record
 pub nothing-counted :
-    (block types seen : List ℕ) → types ≡ replicate 16 0 → seen ≡ replicate cores 0 → Counted block 0 types seen
-nothing-counted block types seen e f =
+    (block : List ℕ) → Counted block 0 (replicate 16 0) (replicate cores false)
+nothing-counted block =
     record {
       inside = omega arith;
       good = λ j h. absurd (omega arith);
       small = λ j h. absurd (omega arith);
-      counted = e ∙ types-start block;
-      marked = f ∙ seen_start block;
+      counted = types-start block;
+      marked = seen_start block;
     }
 
 -- what the counts are
-module _ (block : List ℕ) (n : ℕ) (types seen : List ℕ) (known : Counted block n types seen) where
-  pub counted-size : length types ≡ 16
-  counted-size = ap length known.counted ∙ types-size block n
-
+module _ (block : List ℕ) (n : ℕ) (types : List ℕ) (seen : List Bool) (known : Counted block n types seen) where
   pub counted-bound : record_count block ≤ most_records → (k : ℕ) → get_or types k 0 ≤ most_records
   counted-bound few k =
       let e = ap (λ (l : List ℕ). get_or l k 0) known.counted in
@@ -57,8 +55,5 @@ module _ (block : List ℕ) (n : ℕ) (types seen : List ℕ) (known : Counted b
   pub counted-classes : fold_types types ≡ counts_up_to block n
   counted-classes = ap fold_types known.counted ∙ fold-types block n known.small
 
-  pub marked-size : length seen ≡ cores
-  marked-size = ap length known.marked ∙ seen_size block n
-
-  pub marked-cores : marked_bits seen cores ≡ cores_up_to block n
-  marked-cores = ap (λ (l : List ℕ). marked_bits l cores) known.marked ∙ bits-all block n
+  pub marked-cores : marked_bits seen ≡ cores_up_to block n
+  marked-cores = ap marked_bits known.marked ∙ bits-all block n

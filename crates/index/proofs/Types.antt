@@ -8,7 +8,7 @@ use native.Mathlib.Nat.{mul-add, mul-zero, one-mul}
 use native.Mathlib.Omega.{arith}
 use borrow.Author.Tests.{lt-ltb, ltb-true, eq-eqb, ne_eqb, eqb-true}
 use lib.Dec.{eqb, ltb}
-use lib.ListN.{length, get_or, set, replicate}
+use lib.ListN.{get_or, set, replicate}
 use Rattle.numbers.specs.Numbers.{upto, count, sum, one_if}
 use Rattle.numbers.proofs.Cases.{by-test, same_test}
 use Rattle.numbers.proofs.Count.{count-bound, count-more}
@@ -20,11 +20,13 @@ use Rattle.index.specs.Upto.{counts_up_to, is_of_types, types_up_to, fold_types}
 
 -- ## Lists of the values of a function
 
-pub map-upto-same : (f g : ℕ → ℕ) (k m : ℕ) → ((j : ℕ) → k ≤ j → f j ≡ g j) → map f (upto k m) ≡ map g (upto k m)
-unfolding upto
-map-upto-same f g k zero e = refl
-map-upto-same f g k (suc m) e =
-    ap₂ (λ (x : ℕ) (l : List ℕ). x ∷ l) (e k (omega arith)) (map-upto-same f g (suc k) m (λ j l. e j (omega arith)))
+module _ {A : Type 0} where
+  pub map-upto-same :
+      (f g : ℕ → A) (k m : ℕ) → ((j : ℕ) → k ≤ j → f j ≡ g j) → map f (upto k m) ≡ map g (upto k m)
+  unfolding upto
+  map-upto-same f g k zero e = refl
+  map-upto-same f g k (suc m) e =
+      ap₂ (λ (x : A) (l : List A). x ∷ l) (e k (omega arith)) (map-upto-same f g (suc k) m (λ j l. e j (omega arith)))
 
 -- a bound of the values is one of the list, beyond its end too
 map-upto-bound : (f : ℕ → ℕ) (n : ℕ) → ((j : ℕ) → f j ≤ n) → (k m i : ℕ) → get_or (map f (upto k m)) i 0 ≤ n
@@ -56,10 +58,6 @@ module _ (f g : ℕ → ℕ) (at : ℕ) (e : (j : ℕ) → f j + one_if (eqb at 
       (map-upto-more (suc k) m i (omega arith) (omega arith))
 
 -- ## Counts by sixteen types
-
-pub types-size : (block : List ℕ) (n : ℕ) → length (types_up_to block n) ≡ 16
-unfolding types_up_to upto
-types-size block n = refl
 
 pub types-start : (block : List ℕ) → replicate 16 0 ≡ types_up_to block 0
 unfolding types_up_to upto count

@@ -1,12 +1,14 @@
 -- What the maker has counted on its way through a block, and what the search asks of pattern and index.
-use Rattle.std.specs.Prelude.{◌≡◌, Bool, true, false, ◌&&◌, List, [], ◌∷◌, map, ℕ, ◌+◌, ◌-◌, ◌/◌, ◌≤◌, ◌<◌, eqb, ltb, get_or}
-use Rattle.numbers.specs.Numbers.{upto, count, one_if}
+use Rattle.std.specs.Prelude.{◌≡◌, Bool, true, false, ◌&&◌, List, [], ◌∷◌, map, Result, Ok, Err, ℕ, ◌+◌, ◌-◌, ◌/◌, ◌≤◌, ◌<◌, eqb, get_or}
+use Rattle.numbers.specs.Numbers.{upto, count}
 use Rattle.numbers.specs.Bits.{mask}
 use Rattle.records.specs.declared.Answer.{Answer}
 use Rattle.records.specs.Records.{record_at, record_count, event_kind}
-use Rattle.records.specs.Blocks.{refused, record_refusal}
+use Rattle.records.specs.Blocks.{refused, record_refusal, block_answer}
+use Rattle.records.specs.declared.refusals.Refusal.{Refusal}
+use Rattle.records.specs.Refusals.{code_of, place_of}
 use Rattle.patterns.specs.declared.Pattern.{Pattern}
-use Rattle.index.specs.Index.{classes, cores, count_up_to, has_up_to, CannotMatch}
+use Rattle.index.specs.Index.{index_bytes, index_of, classes, cores, count_up_to, has_up_to, CannotMatch}
 
 -- the counts of the first n records, class by class
 unfoldable pub counts_up_to : List ℕ → ℕ → List ℕ
@@ -31,22 +33,28 @@ fold_types l =
     ∷ (get_or l 8 0 + get_or l 9 0 + get_or l 10 0 + get_or l 11 0 + get_or l 12 0 + get_or l 13 0 + get_or l 14 0 + get_or l 15 0)
     ∷ []
 
--- for each core 1 where the first n records have an event of it, else 0
-unfoldable pub seen_up_to : List ℕ → ℕ → List ℕ
-seen_up_to block n = map (λ c. one_if (has_up_to block n c)) (upto 0 cores)
+-- for each core whether the first n records have an event of it
+unfoldable pub seen_up_to : List ℕ → ℕ → List Bool
+seen_up_to block n = map (has_up_to block n) (upto 0 cores)
 
--- the bits of those cores below c that are marked with 1
-unfoldable pub marked_bits : List ℕ → ℕ → ℕ
-marked_bits l c = mask (λ j. ltb (cores - 1 - j) c && eqb (get_or l (cores - 1 - j) 0) 1) cores
+-- the bits of those cores that are marked
+unfoldable pub marked_bits : List Bool → ℕ
+marked_bits l = mask (λ j. get_or l (cores - 1 - j) false) cores
 
 -- how far the maker has come: the records below n are in order and counted
-pub record Counted (block : List ℕ) (n : ℕ) (types seen : List ℕ) : Type 0 where
+pub record Counted (block : List ℕ) (n : ℕ) (types : List ℕ) (seen : List Bool) : Type 0 where
   pub inside : n ≤ record_count block
   pub good : (j : ℕ) → j < n → record_refusal block j ≡ 0
   -- a type is a byte
   pub small : (j : ℕ) → j < n → (record_at block j).event_type < 256
   pub counted : types ≡ types_up_to block n
   pub marked : seen ≡ seen_up_to block n
+
+-- what the maker leaves in a slice that is as long as an index
+abbrev pub Filled : List ℕ → List ℕ → List ℕ → Result ℕ Refusal → Type 0
+Filled block old new (Ok n) = (n ≡ index_bytes) × ((block_answer block).code ≡ 0) × (new ≡ index_of block)
+Filled block old new (Err r) =
+    (block_answer block ≡ refused (code_of r) (place_of r)) × (¬ (code_of r ≡ 0)) × (new ≡ old)
 
 -- what pattern and index are refused by, the pattern by code and place: it comes first
 unfoldable pub first_refusal : ℕ → ℕ → Bool → Answer

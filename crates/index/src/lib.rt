@@ -1,18 +1,19 @@
 // The index of a block: its maker, the check of an index, and whether a pattern cannot match by it.
 #![tactic(auto)]
 
-ghost use Rattle.std.specs.Prelude.{◌≡◌, ℕ, ◌+◌, ◌*◌, ◌<◌, ◌≤◌, ◌^◌, length, get_or, replicate};
+ghost use Rattle.std.specs.Prelude.{◌≡◌, ℕ, ◌+◌, ◌*◌, ◌<◌, ◌≤◌, ◌^◌, length, get_or};
 ghost use Rattle.records.specs.Records.{record_bytes, record_at, record_count};
 ghost use Rattle.records.specs.Blocks.{most_records, record_refusal};
 ghost use Rattle.patterns.specs.Patterns.{most_conditions};
 ghost use Rattle.patterns.specs.Checked.{condition_at};
-ghost use Rattle.index.specs.Index.{index_bytes, classes, cores, count_bits, events_by, cores_field, core_by};
+ghost use Rattle.index.specs.Index.{index_bytes, count_bits, events_by, cores_field, core_by};
 ghost use Rattle.index.specs.Index.{index_broken, counts_row, packed_bytes, lacks, rules_out};
-ghost use Rattle.index.specs.Upto.{types_up_to, fold_types, seen_up_to, marked_bits, Counted, first_refusal, Decided};
+ghost use Rattle.index.specs.Upto.{types_up_to, fold_types, seen_up_to, marked_bits, Counted};
+ghost use Rattle.index.specs.Upto.{Filled, first_refusal, Decided};
 ghost use Rattle.index.specs.Promises.{MakePromise};
 
-use patterns::Pattern;
-use records::Answer;
+use patterns::{CLASS, CORE, EQUAL, Pattern, WITH_CONSTANT};
+use records::{Answer, Refusal};
 
 pub const INDEX_BYTES: usize = 18;
 
@@ -23,26 +24,9 @@ const TYPE_COUNTS: usize = 16;
 
 const CORES: usize = 64;
 
-const LAST_CLASS: u32 = 5;
-
 const LAST_CORE: u32 = 63;
 
-// What a condition asks for, where the index can tell.
-const CORE: u8 = 0;
-
-const CLASS: u8 = 2;
-
-const WITH_CONSTANT: u8 = 0;
-
-const EQUAL: u8 = 0;
-
 // ## The maker
-
-fn no_counts() -> [u64; TYPE_COUNTS]
-    ensures { result ≡ replicate 16 0 }
-{
-    [0; TYPE_COUNTS]
-}
 
 // The count of the types of record i goes up by one, if it is an event.
 fn count_type(block: &[u8], i: usize, counts: &mut [u64; TYPE_COUNTS])
@@ -53,27 +37,19 @@ fn count_type(block: &[u8], i: usize, counts: &mut [u64; TYPE_COUNTS])
 {
     let types = (records::type_at(block, i) / 16) as usize;
     let kind = records::kind_at(block, i);
-    if kind != records::EVENT {
-        return;
+    if kind == records::EVENT {
+        counts[types] += 1;
     }
-    counts[types] = counts[types] + 1;
-}
-
-fn no_cores() -> [u8; CORES]
-    ensures { result ≡ replicate cores 0 }
-{
-    [0; CORES]
 }
 
 // Marks the core of record i, if it is an event.
-fn mark_core(block: &[u8], i: usize, seen: &mut [u8; CORES])
+fn mark_core(block: &[u8], i: usize, seen: &mut [bool; CORES])
     requires { (record_bytes * i + record_bytes ≤ length block.now) × (seen.old ≡ seen_up_to block.now i) }
     ensures { seen.new ≡ seen_up_to block.now (i + 1) }
 {
-    if records::kind_at(block, i) != records::EVENT {
-        return;
+    if records::kind_at(block, i) == records::EVENT {
+        seen[records::core_at(block, i) as usize] = true;
     }
-    seen[records::core_at(block, i) as usize] = 1;
 }
 
 // Counts record i, which is in order, and the events behind it that go on: gives the record behind them.
@@ -82,7 +58,7 @@ fn take(
     i: usize,
     count: usize,
     counts: &mut [u64; TYPE_COUNTS],
-    seen: &mut [u8; CORES],
+    seen: &mut [bool; CORES],
 ) -> usize
     requires { (i < count) × (count ≡ record_count block.now) × (count ≤ most_records)
         × (record_refusal block.now i ≡ 0) × Counted block.now i counts.old seen.old }
@@ -94,47 +70,29 @@ fn take(
     let mut least = low + records::kind_at(block, i) as u64;
     count_type(block, i, counts);
     mark_core(block, i, seen);
-    let mut at = i + 1;
-    while at < count {
+    for at in i + 1..count {
         if !records::goes_on(block, at, high, least) {
             return at;
         }
         least = numbers::number4(block, records::RECORD_BYTES * at + 3) as u64;
         count_type(block, at, counts);
         mark_core(block, at, seen);
-        at += 1;
     }
-    at
-}
-
-// The bits of the cores with that of core c, if it is marked.
-fn with_core(seen: &[u8; CORES], c: usize, bits: u64) -> u64
-    requires { (length seen.now ≡ cores) × (c < cores) × (bits ≡ marked_bits seen.now c) }
-    ensures { result ≡ marked_bits seen.now (c + 1) }
-{
-    if seen[c] != 1 {
-        return bits;
-    }
-    numbers::with_bit(bits, LAST_CORE as usize - c)
+    count
 }
 
 // The bits of the cores that are marked, core 0 at the high end.
-fn core_bits(seen: &[u8; CORES]) -> u64
-    requires { length seen.now ≡ cores }
-    ensures { result ≡ marked_bits seen.now cores }
+#[tactic(auto, unfolding(crate::specs::Upto::marked_bits))]
+fn core_bits(seen: &[bool; CORES]) -> u64
+    ensures { result ≡ marked_bits seen.now }
 {
-    let mut bits = 0;
-    let mut c = 0;
-    while c < CORES {
-        bits = with_core(seen, c, bits);
-        c += 1;
-    }
-    bits
+    numbers::mask(CORES, |j| seen[LAST_CORE as usize - j])
 }
 
 // Counts by types, put together class by class.
+#[tactic(auto, unfolding(crate::specs::Upto::fold_types))]
 fn class_counts(types: &[u64; TYPE_COUNTS]) -> [u64; CLASSES]
-    requires { (length types.now ≡ 16) × ((k : ℕ) → get_or types.now k 0 ≤ most_records) }
+    requires { (k : ℕ) → get_or types.now k 0 ≤ most_records }
     ensures { result ≡ fold_types types.now }
 {
     let marks = types[8]
@@ -157,7 +115,7 @@ fn class_counts(types: &[u64; TYPE_COUNTS]) -> [u64; CLASSES]
 
 // The bytes of an index that has these counts and these bits of cores.
 fn put_index(index: &mut [u8], counts: &[u64; CLASSES], bits: u64)
-    requires { (length index.old ≡ index_bytes) × (length counts.now ≡ classes)
+    requires { (length index.old ≡ index_bytes)
         × ((k : ℕ) → get_or counts.now k 0 < 2 ^ count_bits) }
     ensures { index.new ≡ packed_bytes (counts_row (λ k. get_or counts.now k 0)) bits }
 {
@@ -171,38 +129,38 @@ fn put_index(index: &mut [u8], counts: &[u64; CLASSES], bits: u64)
     index[17] = (last % 256) as u8;
 }
 
-// The maker of indexes (Rule 7.10): judges each record and counts it, in one way through the block.
-pub fn make_index(block: &[u8], index: &mut [u8]) -> Answer
-    ensures { MakePromise block.now (length index.old) result index.new }
+// Judges each record and counts it, in one way through the block, and fills a slice that is as long as an index. A step
+// goes behind a run of events.
+fn fill(block: &[u8], index: &mut [u8]) -> Result<usize, Refusal>
+    requires { length index.old ≡ index_bytes }
+    ensures { Filled block.now index.old index.new result }
 {
-    numbers::clear(index);
-    if index.len() != INDEX_BYTES {
-        return records::refusal(15, 0);
-    }
     if records::is_misfit(block) {
-        return records::refusal(5, 0);
+        return Err(Refusal::BlockLength);
     }
     let count = block.len() / records::RECORD_BYTES;
-    let mut types = no_counts();
-    let mut seen = no_cores();
+    let mut types = [0; TYPE_COUNTS];
+    let mut seen = [false; CORES];
     let mut i = 0;
     while i < count {
-        let wrong = records::refusal_of(block, i);
-        if wrong != 0 {
-            return records::refusal(wrong, i as u32);
-        }
+        records::judge_record(block, i)?;
         i = take(block, i, count, &mut types, &mut seen);
     }
     let counts = class_counts(&types);
     let bits = core_bits(&seen);
     put_index(index, &counts, bits);
-    Answer {
-        code: 0,
-        place: 0,
-        used: INDEX_BYTES as u64,
-        readings: 0,
-        peak: 0,
+    Ok(INDEX_BYTES)
+}
+
+// The maker of indexes (Rule 7.10).
+pub fn make_index(block: &[u8], index: &mut [u8]) -> Answer
+    ensures { MakePromise block.now (length index.old) result index.new }
+{
+    numbers::clear(index);
+    if index.len() != INDEX_BYTES {
+        return Answer::from(Refusal::Index);
     }
+    Answer::from(fill(block, index))
 }
 
 // ## What an index says
@@ -211,24 +169,23 @@ pub fn make_index(block: &[u8], index: &mut [u8]) -> Answer
 pub fn is_broken(index: &[u8]) -> bool
     ensures { result ≡ index_broken index.now }
 {
-    if index.len() != INDEX_BYTES {
-        return true;
-    }
-    numbers::byte(index, 17) % 4 != 0
+    index.len() != INDEX_BYTES || numbers::byte(index, 17) % 4 != 0
 }
 
 // What pattern and index are refused by (Rule 8.20): the pattern, which is given by its refusal, comes first. All 0
 // where neither is refused.
+// It takes and gives numbers, which its public promise speaks of; the search goes by `Refusal`, in the same order.
+#[tactic(auto, unfolding(crate::specs::Upto::first_refusal))]
 pub fn first_refusal(code: u8, place: u32, broken: bool) -> Answer
     ensures { result ≡ first_refusal code place broken }
 {
     if code != 0 {
-        return records::refusal(code, place);
+        records::refusal(code, place)
+    } else if broken {
+        Answer::from(Refusal::Index)
+    } else {
+        records::refusal(0, 0)
     }
-    if broken {
-        return records::refusal(15, 0);
-    }
-    records::refusal(0, 0)
 }
 
 // How many events a class has by the index.
@@ -236,27 +193,17 @@ fn events_by(index: &[u8], class: u32) -> u64
     requires { length index.now ≡ index_bytes }
     ensures { result ≡ events_by index.now class }
 {
-    if LAST_CLASS < class {
-        return 0;
-    }
     let high = numbers::number8(index, 0);
     let low = numbers::number2(index, 8) as u64;
-    if class == 0 {
-        return high >> 51;
+    match class {
+        0 => high >> 51,
+        1 => (high >> 38) % 8192,
+        2 => (high >> 25) % 8192,
+        3 => (high >> 12) % 8192,
+        4 => high % 4096 * 2 + (low >> 15),
+        5 => (low >> 2) % 8192,
+        _ => 0,
     }
-    if class == 1 {
-        return (high >> 38) % 8192;
-    }
-    if class == 2 {
-        return (high >> 25) % 8192;
-    }
-    if class == 3 {
-        return (high >> 12) % 8192;
-    }
-    if class == 4 {
-        return high % 4096 * 2 + (low >> 15);
-    }
-    (low >> 2) % 8192
 }
 
 // The bits of the cores.
@@ -270,42 +217,36 @@ fn cores_field(index: &[u8]) -> u64
 }
 
 // Whether a core has events by the index.
+#[tactic(auto, unfolding(crate::specs::Index::core_by))]
 fn core_by(index: &[u8], core: u32) -> bool
     requires { length index.now ≡ index_bytes }
     ensures { result ≡ core_by index.now core }
 {
-    if LAST_CORE < core {
-        return false;
-    }
-    numbers::bit_of(cores_field(index), (LAST_CORE - core) as usize)
+    core <= LAST_CORE && numbers::bit_of(cores_field(index), (LAST_CORE - core) as usize)
 }
 
 // Whether no event has this value of the attribute by the index, which tells of core and class alone.
+#[tactic(auto, unfolding(crate::specs::Index::lacks))]
 fn is_lacking(index: &[u8], attribute: u8, value: u32) -> bool
     requires { length index.now ≡ index_bytes }
     ensures { result ≡ lacks index.now attribute value }
 {
-    if attribute == CORE {
-        return !core_by(index, value);
+    match attribute {
+        CORE => !core_by(index, value),
+        CLASS => events_by(index, value) == 0,
+        _ => false,
     }
-    if attribute == CLASS {
-        return events_by(index, value) == 0;
-    }
-    false
 }
 
 // Whether by the index no event meets condition i.
+#[tactic(auto, unfolding(crate::specs::Index::rules_out, patterns::specs::Checked::condition_at))]
 fn is_ruled_out(p: Pattern, i: usize, index: &[u8]) -> bool
     requires { (length index.now ≡ index_bytes) × (i < most_conditions) }
     ensures { result ≡ rules_out index.now (condition_at p i) }
 {
-    if p.forms[i] != WITH_CONSTANT {
-        return false;
-    }
-    if p.operators[i] != EQUAL {
-        return false;
-    }
-    is_lacking(index, p.attributes[i], p.constants[i])
+    p.forms[i] == WITH_CONSTANT
+        && p.operators[i] == EQUAL
+        && is_lacking(index, p.attributes[i], p.constants[i])
 }
 
 // Whether the pattern cannot match by the index (Rule 12.3).
@@ -313,12 +254,10 @@ pub fn cannot_match(p: Pattern, index: &[u8]) -> bool
     requires { (length index.now ≡ index_bytes) × (p.c ≤ most_conditions) }
     ensures { Decided p index.now result }
 {
-    let mut i = 0;
-    while i < p.c {
+    for i in 0..p.c {
         if is_ruled_out(p, i, index) {
             return true;
         }
-        i += 1;
     }
     false
 }

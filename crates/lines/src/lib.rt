@@ -59,11 +59,9 @@ fn put_bindings(res: &[u8], first: usize, count: usize, text: &mut [u8], at: usi
         (reading_text (bindings_at res.now first count)) result × (result ≤ at + number_room * count) }
 {
     let mut end = at;
-    let mut i = 0;
-    while i < count {
+    for i in 0..count {
         let binding = numbers::number2(res, 2 * (first + i));
         end = put_binding(text, end, binding);
-        i += 1;
     }
     end
 }
@@ -100,11 +98,9 @@ fn put_lines(res: &[u8], count: usize, text: &mut [u8]) -> usize
 {
     let mut end = 0;
     let mut at = 0;
-    let mut i = 0;
-    while i < count {
+    for _ in 0..count {
         end = put_line(res, at, text, end);
         at = next_line(res, at);
-        i += 1;
     }
     end
 }
@@ -134,7 +130,8 @@ fn put_refused(text: &mut [u8], answer: Answer) -> usize
     place + 1
 }
 
-// All that is written of an answer and of the result beside it; answers how many bytes that is.
+// All that is written of an answer and of the result beside it; answers how many bytes that is. An answer has its code
+// as a number (Rule 7.2).
 pub fn put_answer(answer: Answer, res: &[u8], text: &mut [u8]) -> usize
     requires { (answer.code ≡ 0 → 2 * place_of res.now answer.readings ≤ length res.now)
         × (text_room (length res.now) ≤ length text.old) }

@@ -6,7 +6,9 @@
 #![tactic(auto)]
 
 mod cases;
+mod listing;
 
+use listing::list;
 use std::io;
 
 fn main(rt: HostRuntime) -> io::Result<()> {
@@ -18,76 +20,96 @@ fn main(rt: HostRuntime) -> io::Result<()> {
 
 // The example pattern of the rules (Rule 10.1): seven steps.
 fn bench(out: &impl Print) -> io::Result<()> {
-    cases::bench(out, b"bench: room for its seven steps", 56)?;
-    cases::bench(out, b"bench: four left-over bytes", 60)?;
-    cases::bench(out, b"bench: one number more, and seven bytes", 71)?;
-    cases::bench(out, b"bench: one byte too short", 55)?;
-    cases::bench(out, b"bench: room for six", 48)?;
-    cases::bench(out, b"bench: no room", 0)
+    list(out, "bench: room for its seven steps", cases::BENCH, 56)?;
+    list(out, "bench: four left-over bytes", cases::BENCH, 60)?;
+    list(
+        out,
+        "bench: one number more, and seven bytes",
+        cases::BENCH,
+        71,
+    )?;
+    list(out, "bench: one byte too short", cases::BENCH, 55)?;
+    list(out, "bench: room for six", cases::BENCH, 48)?;
+    list(out, "bench: no room", cases::BENCH, 0)
 }
 
 // The paper's example: 17 steps.
 fn paper(out: &impl Print) -> io::Result<()> {
-    cases::paper(out, b"paper: c, p+, d, then b", 136)?;
-    cases::paper(out, b"paper: one too short", 135)
+    list(out, "paper: c, p+, d, then b", cases::PAPER, 136)?;
+    list(out, "paper: one too short", cases::PAPER, 135)
 }
 
 fn sets(out: &impl Print) -> io::Result<()> {
-    cases::list(
+    list(out, "one variable, no condition", cases::ONE, 16)?;
+    list(
         out,
-        b"one variable, no condition",
-        b"\x11\x00\x00\x00\x00\x00\x00\x00\x10",
-        16,
-    )?;
-    cases::two_sets(
-        out,
-        b"two sets of one, a condition of one variable twice",
+        "two sets of one, a condition of one variable twice",
+        cases::TWO_SETS,
         40,
     )?;
-    cases::waves(out, b"two sets of one, three conditions on waves", 24)?;
-    cases::different(out, b"two sets of one, three conditions with not equal", 24)?;
-    cases::largest(out, b"largest: two sets of six group variables", 6144)?;
-    cases::largest(out, b"largest: longer slice", 6151)?;
-    cases::largest(out, b"largest: one too short", 6143)?;
-    cases::eight_sets(out, b"eight sets", 400)?;
-    cases::eight_sets(out, b"eight sets: a short slice", 100)
+    list(
+        out,
+        "two sets of one, three conditions on waves",
+        cases::WAVES,
+        24,
+    )?;
+    list(
+        out,
+        "two sets of one, three conditions with not equal",
+        cases::DIFFERENT,
+        24,
+    )?;
+    let largest = cases::full(cases::LARGEST);
+    list(
+        out,
+        "largest: two sets of six group variables",
+        &largest,
+        6144,
+    )?;
+    list(out, "largest: longer slice", &largest, 6151)?;
+    list(out, "largest: one too short", &largest, 6143)?;
+    let eight_sets = cases::full(cases::EIGHT_SETS);
+    list(out, "eight sets", &eight_sets, 400)?;
+    list(out, "eight sets: a short slice", &eight_sets, 100)
 }
 
 fn refused(out: &impl Print) -> io::Result<()> {
-    cases::list(out, b"refused 1: no bytes", b"", 20)?;
-    cases::list(
+    list(out, "refused 1: no bytes", b"", 20)?;
+    list(out, "refused 1: seven bytes", &cases::BENCH[..7], 20)?;
+    let mut longer = [0; 52];
+    longer[..51].copy_from_slice(cases::BENCH);
+    list(
         out,
-        b"refused 1: seven bytes",
-        b"\x13\x05\x00\x00\x00\x00\x00",
+        "refused 1: a byte more than the counts say",
+        &longer,
         20,
     )?;
-    cases::longer(out, b"refused 1: a byte more than the counts say", 20)?;
-    cases::list(
+    list(out, "refused 2: edition 2", cases::EDITION_2, 20)?;
+    list(
         out,
-        b"refused 2: edition 2",
-        b"\x21\x00\x00\x00\x00\x00\x00\x00\x10",
+        "refused 2 before 1: thirteen variables",
+        cases::THIRTEEN,
         20,
     )?;
-    cases::list(
+    list(
         out,
-        b"refused 2 before 1: thirteen variables",
-        b"\x1d\x00\x00\x00\x00\x00\x00\x00",
+        "refused 3: the second set is missing",
+        cases::SET_MISSING,
         20,
     )?;
-    cases::list(
+    list(out, "refused 3: a set of seven", cases::SET_OF_SEVEN, 20)?;
+    list(out, "refused 4: operator 6", cases::OPERATOR, 20)?;
+    list(out, "refused 4: attribute 6", cases::ATTRIBUTE, 20)?;
+    list(
         out,
-        b"refused 3: the second set is missing",
-        b"\x12\x00\x00\x00\x00\x00\x00\x07\x10\x30",
+        "refused 4: second attribute 6",
+        cases::SECOND_ATTRIBUTE,
         20,
     )?;
-    cases::list(
+    list(
         out,
-        b"refused 3: a set of seven",
-        b"\x17\x00\x00\x00\x00\x00\x00\x07\x10\x10\x10\x10\x10\x10\x10",
-        20,
-    )?;
-    cases::operator(out, b"refused 4: operator 6", 20)?;
-    cases::attribute(out, b"refused 4: attribute 6", 20)?;
-    cases::second_attribute(out, b"refused 4: second attribute 6", 20)?;
-    cases::second_variable(out, b"refused 4 before 12: no such variable", 3)
+        "refused 4 before 12: no such variable",
+        cases::SECOND_VARIABLE,
+        3,
+    )
 }

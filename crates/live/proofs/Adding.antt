@@ -27,9 +27,6 @@ pub record Partly (old new : List ℕ) (dst limit t : ℕ) (o : Bool) (t' : ℕ)
   pub added : Added old new dst limit t o t' o' done
   pub whole : all ≡ done ++ rest
 
-pub partly-start : {w : List ℕ} {dst limit t : ℕ} {o : Bool} {all : List Held} → Partly w w dst limit t o t o all all
-partly-start {w} {dst} {limit} {t} {o} = record { done = []; added = added_none w dst limit t o; whole = refl }
-
 module _ {a b : List ℕ} {dst limit t t' : ℕ} {o o' : Bool} {all rest : List Held}
     (p : Partly a b dst limit t o t' o' all rest) where
   pub partly-turn :

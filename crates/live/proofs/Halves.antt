@@ -10,7 +10,7 @@ use lib.ListN.{length}
 use Rattle.slots.specs.Slots.{Held, slot_bytes, slots_at}
 use Rattle.slots.proofs.Slots.{length-slots_at}
 use Rattle.live.specs.Live.{long, step_by}
-use Rattle.live.specs.Memory.{Apart, Added, Stands, Moved}
+use Rattle.live.specs.Memory.{Added, Stands, Moved}
 use Rattle.live.proofs.Steps.{step-idle}
 use Rattle.live.proofs.Memory.{standing-none}
 
@@ -18,24 +18,12 @@ module _ {lent limit half start count : ℕ} (s : Stands lent limit half start c
   pub half_in : half ≤ slot_bytes * limit
   half_in = ⊎_elim (λ (e : half ≡ 0). omega arith) (λ (e : half ≡ slot_bytes * limit). omega arith) s.side
 
-  pub other-in : slot_bytes * limit - half + slot_bytes * limit ≤ lent
-  other-in = let room = s.room in omega arith
-
   pub start-in : start + slot_bytes * count ≤ lent
   start-in = let room = s.room in let to = s.to in let h = half_in in omega arith
 
   -- no place is beyond what a number of 64 bits holds
   pub start_small : start + slot_bytes * count < 9223372036854775808
   start_small = let few = s.few in let to = s.to in let h = half_in in omega arith
-
-  pub halves-apart : Apart start (start + slot_bytes * count) (slot_bytes * limit - half) limit
-  halves-apart =
-      let to = s.to in
-      let from = s.from in
-      record { sides = ⊎_elim (λ (e : half ≡ 0). inl (omega arith)) (λ (e : half ≡ slot_bytes * limit). inr (omega arith)) s.side }
-
-  pub few-stand : count ≤ limit
-  few-stand = let to = s.to in let from = s.from in omega arith
 
   pub other-side : (slot_bytes * limit - half ≡ 0) ⊎ (slot_bytes * limit - half ≡ slot_bytes * limit)
   other-side = ⊎_elim (λ (e : half ≡ 0). inr (omega arith)) (λ (e : half ≡ slot_bytes * limit). inl (omega arith)) s.side

@@ -1,4 +1,3 @@
-pub mod Flags
 pub mod Parts
 pub mod TooLong
 pub mod Memory

@@ -10,79 +10,78 @@ ghost use Rattle.rule.specs.Calls.{most_live};
 ghost use Rattle.slots.specs.Slots.{slot_bytes, slot_at, slots_at, held_in, count_in, grow};
 ghost use Rattle.plans.specs.Plan.{Sound, Classed};
 ghost use Rattle.firing.specs.Firing.{Fit};
-ghost use Rattle.live.specs.Flags.{is_set};
 ghost use Rattle.live.specs.Live.{one_by, fired_by, extend_by, first_by, begun_by, step_by, is_long, long, is_event_by};
 ghost use Rattle.live.specs.Live.{can_at};
 ghost use Rattle.live.specs.Memory.{step_bound, Apart, Added, Ready, Stands, Moved};
 
-use plans::PLAN_ROOM;
+use plans::Plan;
 use slots::SLOT_BYTES;
 
-// How many readings were put out, and whether one of them has a binding too many.
-#[derive(Clone, Copy)]
+// How many readings were put out, and whether one of them has a binding too many: those behind it are counted too, as
+// `move_on` promises, so it is no error that ends the record.
+#[derive(Clone, Copy, Debug, PartialEq, Eq)]
 pub struct Out {
     pub total: usize,
-    pub over: usize,
+    pub over: bool,
 }
 
 // Where the live readings stand: the half of working memory, the place of the first, how many; and whether one of them
 // has a binding too many.
-#[derive(Clone, Copy)]
+#[derive(Clone, Copy, Debug, PartialEq, Eq)]
 pub struct Stand {
     pub half: usize,
     pub start: usize,
     pub count: usize,
-    pub over: usize,
+    pub over: bool,
 }
 
 // ## What can fire
 
-// Whether record i is an event.
+// Whether record i is an event, in the words of this crate's definitions.
+#[tactic(auto, unfolding(crate::specs::Live::is_event_by))]
 pub fn is_event(block: &[u8], i: usize) -> bool
     requires { record_bytes * i + record_bytes ≤ length block.now }
     ensures { result ≡ is_event_by block.now i }
 {
-    records::kind_at(block, i) == records::EVENT
+    records::is_event(block, i)
 }
 
 // The variables whose own conditions hold of record i, if it is an event.
-pub fn can_at(plan: &[u64; PLAN_ROOM], block: &[u8], i: usize, n: usize, c: usize) -> u64
+#[tactic(auto, unfolding(crate::specs::Live::can_at))]
+pub fn can_at(plan: &Plan, block: &[u8], i: usize, n: usize, c: usize) -> u64
     requires { Sound plan.now × Classed plan.now n c × (n ≤ most_variables) × (c ≤ most_conditions)
         × (record_bytes * i + record_bytes ≤ length block.now) }
     ensures { (result ≡ can_at plan.now n c block.now i) × (result < 2 ^ most_variables) }
 {
     if is_event(block, i) {
-        return firing::can_fire(plan, n, c, block, i);
+        firing::can_fire(plan, n, c, block, i)
+    } else {
+        0
     }
-    0
 }
 
 // ## Going on
 
 // Puts out one reading that has no binding too many.
 fn emit(work: &mut [u8], slot: &[u8; SLOT_BYTES], dst: usize, limit: usize, out: Out) -> Out
-    requires { (dst + slot_bytes * limit ≤ length work.old) × (length slot.now ≡ slot_bytes)
+    requires { (dst + slot_bytes * limit ≤ length work.old)
         × (is_long (held_in slot.now) ≡ false) × (out.total < step_bound) }
-    ensures { Added work.old work.new dst limit out.total (is_set out.over) result.total
-        (is_set result.over) (held_in slot.now ∷ []) }
+    ensures { Added work.old work.new dst limit out.total out.over result.total
+        result.over (held_in slot.now ∷ []) }
 {
-    let total = out.total;
-    if limit <= total {
-        return Out {
-            total: total + 1,
-            over: out.over,
-        };
+    if out.total < limit {
+        let at = dst + SLOT_BYTES * out.total;
+        let end = at + SLOT_BYTES;
+        slots::store(&mut work[at..end], slot);
     }
-    let at = dst + SLOT_BYTES * total;
-    let end = at + SLOT_BYTES;
-    slots::store(&mut work[at..end], slot);
     Out {
-        total: total + 1,
-        over: out.over,
+        total: out.total + 1,
+        ..out
     }
 }
 
-// Puts out the slot's reading, which has room for a binding, with variable v bound to record i.
+// Puts out the slot's reading, which has room for a binding, with variable v bound to record i. It is bound where it
+// was put, so it is not `emit` of a bound copy.
 fn emit_bound(
     work: &mut [u8],
     slot: &[u8; SLOT_BYTES],
@@ -92,25 +91,20 @@ fn emit_bound(
     limit: usize,
     out: Out,
 ) -> Out
-    requires { (dst + slot_bytes * limit ≤ length work.old) × (length slot.now ≡ slot_bytes)
+    requires { (dst + slot_bytes * limit ≤ length work.old)
         × (count_in slot.now < most_bindings) × (out.total < step_bound) × (v < most_variables) × (i < most_records) }
-    ensures { Added work.old work.new dst limit out.total (is_set out.over) result.total
-        (is_set result.over) (grow i v (held_in slot.now) ∷ []) }
+    ensures { Added work.old work.new dst limit out.total out.over result.total
+        result.over (grow i v (held_in slot.now) ∷ []) }
 {
-    let total = out.total;
-    if limit <= total {
-        return Out {
-            total: total + 1,
-            over: out.over,
-        };
+    if out.total < limit {
+        let at = dst + SLOT_BYTES * out.total;
+        let end = at + SLOT_BYTES;
+        slots::store(&mut work[at..end], slot);
+        slots::bind(&mut work[at..end], i, v);
     }
-    let at = dst + SLOT_BYTES * total;
-    let end = at + SLOT_BYTES;
-    slots::store(&mut work[at..end], slot);
-    slots::bind(&mut work[at..end], i, v);
     Out {
-        total: total + 1,
-        over: out.over,
+        total: out.total + 1,
+        ..out
     }
 }
 
@@ -126,24 +120,25 @@ fn emit_grown(
 ) -> Out
     requires { (dst + slot_bytes * limit ≤ length work.old) × (from + slot_bytes ≤ length work.old)
         × (out.total < step_bound) × (v < most_variables) × (i < most_records) }
-    ensures { Added work.old work.new dst limit out.total (is_set out.over) result.total
-        (is_set result.over) (grow i v (held_in (slot_at work.old from)) ∷ []) }
+    ensures { Added work.old work.new dst limit out.total out.over result.total
+        result.over (grow i v (held_in (slot_at work.old from)) ∷ []) }
 {
     let end = from + SLOT_BYTES;
     if slots::count_of(&work[from..end]) < slots::MOST_BINDINGS {
         let slot = slots::load(&work[from..end]);
-        return emit_bound(work, &slot, i, v, dst, limit, out);
-    }
-    Out {
-        total: out.total + 1,
-        over: 1,
+        emit_bound(work, &slot, i, v, dst, limit, out)
+    } else {
+        Out {
+            total: out.total + 1,
+            over: true,
+        }
     }
 }
 
 // Puts out the extension of the reading at `from` by one variable whose own conditions hold, if it fires.
 fn try_one(
     work: &mut [u8],
-    plan: &[u64; PLAN_ROOM],
+    plan: &Plan,
     block: &[u8],
     i: usize,
     v: usize,
@@ -156,23 +151,23 @@ fn try_one(
         × (out.total < step_bound) × (v < most_variables) × (i < most_records)
         × Fit plan.now block.now i (slot_at work.old from) }
     ensures { Added work.old work.new dst limit
-        out.total (is_set out.over) result.total (is_set result.over)
+        out.total out.over result.total result.over
         (one_by plan.now block.now i v (held_in (slot_at work.old from))) }
 {
     let end = from + SLOT_BYTES;
-    if !firing::leaves(plan, slots::state_of(&work[from..end]), v) {
-        return out;
+    let slot = &work[from..end];
+    if firing::leaves(plan, slots::state_of(slot), v) && firing::agrees(plan, block, i, v, slot) {
+        emit_grown(work, from, i, v, dst, limit, out)
+    } else {
+        out
     }
-    if firing::agrees(plan, block, i, v, &work[from..end]) {
-        return emit_grown(work, from, i, v, dst, limit, out);
-    }
-    out
 }
 
-// Puts out the extensions of the reading at `from` by each variable of `can` that fires, the smallest first.
+// Puts out the extensions of the reading at `from` by each variable of `can` that fires, the smallest first: a loop
+// over the bits of a mask.
 fn spread(
     work: &mut [u8],
-    plan: &[u64; PLAN_ROOM],
+    plan: &Plan,
     block: &[u8],
     i: usize,
     can: u64,
@@ -185,7 +180,7 @@ fn spread(
         × Apart from (from + slot_bytes) dst limit × (out.total + most_variables < step_bound) × (can < 2 ^ most_variables)
         × (i < most_records) × Fit plan.now block.now i (slot_at work.old from) }
     ensures { Added work.old work.new dst limit
-        out.total (is_set out.over) result.total (is_set result.over)
+        out.total out.over result.total result.over
         (fired_by plan.now block.now i can (held_in (slot_at work.old from))) }
 {
     let mut more = out;
@@ -193,7 +188,7 @@ fn spread(
     while rest != 0 {
         let v = numbers::lowest_bit(rest);
         more = try_one(work, plan, block, i, v, from, dst, limit, more);
-        rest = rest - numbers::weight(v);
+        rest = numbers::without_lowest(rest);
     }
     more
 }
@@ -201,7 +196,7 @@ fn spread(
 // Puts out what the live reading at `from` becomes: its extensions, or itself where there are none.
 fn extend_one(
     work: &mut [u8],
-    plan: &[u64; PLAN_ROOM],
+    plan: &Plan,
     block: &[u8],
     i: usize,
     can: u64,
@@ -214,13 +209,11 @@ fn extend_one(
         × Apart from (from + slot_bytes) dst limit × (out.total + most_variables < step_bound) × (can < 2 ^ most_variables)
         × (i < most_records) × Fit plan.now block.now i (slot_at work.old from) }
     ensures { Added work.old work.new dst limit
-        out.total (is_set out.over) result.total (is_set result.over)
+        out.total out.over result.total result.over
         (extend_by plan.now block.now i can (held_in (slot_at work.old from))) }
 {
-    let total = out.total;
     let more = spread(work, plan, block, i, can, from, dst, limit, out);
-    let now = more.total;
-    if total < now {
+    if out.total < more.total {
         return more;
     }
     let end = from + SLOT_BYTES;
@@ -232,7 +225,7 @@ fn extend_one(
 // state is all that it is asked.
 fn begin_one(
     work: &mut [u8],
-    plan: &[u64; PLAN_ROOM],
+    plan: &Plan,
     i: usize,
     v: usize,
     dst: usize,
@@ -241,20 +234,22 @@ fn begin_one(
 ) -> Out
     requires { (dst + slot_bytes * limit ≤ length work.old) × (out.total < step_bound) × (v < most_variables)
         × (i < most_records) × Sound plan.now }
-    ensures { Added work.old work.new dst limit out.total (is_set out.over) result.total
-        (is_set result.over) (first_by plan.now i v) }
+    ensures { Added work.old work.new dst limit out.total out.over result.total
+        result.over (first_by plan.now i v) }
 {
     if firing::leaves(plan, 0, v) {
         let none = slots::empty_slot();
-        return emit_bound(work, &none, i, v, dst, limit, out);
+        emit_bound(work, &none, i, v, dst, limit, out)
+    } else {
+        out
     }
-    out
 }
 
-// Puts out the readings that begin with each variable of `can` that fires, the smallest first.
+// Puts out the readings that begin with each variable of `can` that fires, the smallest first: a loop over the bits of
+// a mask.
 fn begin(
     work: &mut [u8],
-    plan: &[u64; PLAN_ROOM],
+    plan: &Plan,
     i: usize,
     can: u64,
     dst: usize,
@@ -263,15 +258,15 @@ fn begin(
 ) -> Out
     requires { (dst + slot_bytes * limit ≤ length work.old) × (out.total + most_variables < step_bound)
         × (can < 2 ^ most_variables) × (i < most_records) × Sound plan.now }
-    ensures { Added work.old work.new dst limit out.total (is_set out.over) result.total
-        (is_set result.over) (begun_by plan.now i can) }
+    ensures { Added work.old work.new dst limit out.total out.over result.total
+        result.over (begun_by plan.now i can) }
 {
     let mut more = out;
     let mut rest = can;
     while rest != 0 {
         let v = numbers::lowest_bit(rest);
         more = begin_one(work, plan, i, v, dst, limit, more);
-        rest = rest - numbers::weight(v);
+        rest = numbers::without_lowest(rest);
     }
     more
 }
@@ -279,7 +274,7 @@ fn begin(
 // The live readings from src on, count of them, are replaced by what they become at event i, then those that begin.
 fn advance(
     work: &mut [u8],
-    plan: &[u64; PLAN_ROOM],
+    plan: &Plan,
     block: &[u8],
     i: usize,
     can: u64,
@@ -292,15 +287,16 @@ fn advance(
         × Apart src (src + slot_bytes * count) dst limit }
     requires ready { (count ≤ most_live) × (can < 2 ^ most_variables) × (i < most_records) × Sound plan.now
         × Ready work.old plan.now block.now i src count }
-    ensures { Added work.old work.new dst limit 0 false result.total (is_set result.over)
+    ensures { Added work.old work.new dst limit 0 false result.total result.over
         (step_by plan.now block.now i can (slots_at work.old src count)) }
 {
-    let mut out = Out { total: 0, over: 0 };
-    let mut k = 0;
-    while k < count {
+    let mut out = Out {
+        total: 0,
+        over: false,
+    };
+    for k in 0..count {
         let at = src + SLOT_BYTES * k;
         out = extend_one(work, plan, block, i, can, at, dst, limit, out);
-        k += 1;
     }
     begin(work, plan, i, can, dst, limit, out)
 }
@@ -308,7 +304,7 @@ fn advance(
 // The live readings after record i. Where no variable can fire nothing moves.
 pub fn move_on(
     work: &mut [u8],
-    plan: &[u64; PLAN_ROOM],
+    plan: &Plan,
     block: &[u8],
     i: usize,
     can: u64,
@@ -316,11 +312,11 @@ pub fn move_on(
     limit: usize,
 ) -> Stand
     requires stands { Stands (length work.old) limit stand.half stand.start stand.count
-        × (long (slots_at work.old stand.start stand.count) ≡ false) × (is_set stand.over ≡ false) }
+        × (long (slots_at work.old stand.start stand.count) ≡ false) × (stand.over ≡ false) }
     requires ready { (can < 2 ^ most_variables) × (i < most_records) × Sound plan.now
         × Ready work.old plan.now block.now i stand.start stand.count }
     ensures { Moved work.old work.new limit result.half result.start
-        result.count (is_set result.over) (step_by plan.now block.now i can
+        result.count result.over (step_by plan.now block.now i can
         (slots_at work.old stand.start stand.count)) }
 {
     if can == 0 {
@@ -357,9 +353,8 @@ pub fn without(stand: Stand, gone: usize) -> Stand
     } }
 {
     Stand {
-        half: stand.half,
         start: stand.start + SLOT_BYTES * gone,
         count: stand.count - gone,
-        over: stand.over,
+        ..stand
     }
 }

@@ -1,17 +1,12 @@
 -- The bits of a number, numbers made of bits, and the bits of bit_and and bit_or. Assumes nothing.
-use mathlib.Core.Path.{◌≡◌, ◌∙◌, refl, sym, ap, ap₂, subst}
-use mathlib.Core.Bool.{Bool, true, false, not, ◌&&◌, ◌||◌, or_comm, and-false}
-use Prim.Native.Nat.{ℕ, zero, suc, ◌+◌, ◌-◌, ◌*◌, ◌/◌, ◌%◌, ◌^◌, ◌≤◌, ◌<◌, zero-le}
-use native.Mathlib.Nat.{add_comm, div-eq_of_lt, div-div-eq-div-mul, div-mul-le_self, div-one, le_refl, le_trans}
-use native.Mathlib.Nat.{lt_of_le_of_lt, lt_of_lt_of_le, mod-eq_of_lt, mod-le, mod-lt, mod-one, mul-div_cancel}
-use native.Mathlib.Nat.{mul-le-mul_right, mul-mod_left, not-suc-le-zero, le_of_suc-le-suc, pow-suc, pow-succ'}
-use native.Mathlib.Nat.{zero-lt-suc}
-use native.Mathlib.Numerals.{add-one, one-add}
-use native.Mathlib.Omega.{arith}
-use borrow.Author.Tests.{eq-eqb, ne_eqb, eqb-true, lt-ltb, le-ltb}
-use lib.Bits.{bit_and, bit_or, and_shr, and_mod, and_le_l, or_shr, or_mod, or_lt, block_half, block_odd}
-use lib.Dec.{eqb, ltb, eqb-zero-suc, eqb-suc-zero, eqb-suc-suc}
-use lib.Pow.{high, mod-pow-add, pow-lt, pow_mono, pow_pos}
+use Rattle.std.proofs.Common.{◌≡◌, ◌∙◌, refl, sym, ap, ap₂, subst, Bool, true, false, not, ◌&&◌, ◌||◌, ℕ, zero, suc, ◌+◌, ◌-◌, ◌*◌, ◌/◌, ◌%◌, ◌^◌, ◌≤◌, ◌<◌, zero-le, add_comm, div-mul-le_self, div-one, le_refl, le_trans, lt_of_le_of_lt, lt_of_lt_of_le, mod-eq_of_lt, mod-lt, mul-div_cancel, mul-le-mul_right, not-suc-le-zero, le_of_suc-le-suc, pow-suc, zero-lt-suc, add-one, one-add, arith, eq-eqb, ne_eqb, eqb-true, lt-ltb, le-ltb, bit_and, bit_or, eqb, ltb, pow_mono, pow_pos}
+use mathlib.Core.Bool.{or_comm, and-false}
+use native.Mathlib.Nat.{div-eq_of_lt, div-div-eq-div-mul}
+use native.Mathlib.Nat.{mod-le, mod-one}
+use native.Mathlib.Nat.{mul-mod_left, pow-succ'}
+use lib.Bits.{and_shr, and_mod, and_le_l, or_shr, or_mod, or_lt, block_half, block_odd}
+use lib.Dec.{eqb-zero-suc, eqb-suc-zero, eqb-suc-suc}
+use lib.Pow.{high, mod-pow-add, pow-lt}
 use Rattle.numbers.specs.Numbers.{one_if}
 use Rattle.numbers.specs.Bits.{bit, mask, within, disjoint}
 use Rattle.numbers.proofs.Cases.{by_order, both}
@@ -278,3 +273,6 @@ module _ (f : ℕ → Bool) (s n : ℕ) where
 
   pub disjoint-mask-of : ((v : ℕ) → v < n → f v ≡ true → bit s v ≡ false) → disjoint (mask f n) s ≡ true
   disjoint-mask-of g = disjoint-of (mask f n) s n (mask_bound f n) (λ v l h. g v l (sym (mask-inside f n v l) ∙ h))
+
+pub more-below : (t : Bool) (m n : ℕ) → m < 2 ^ n → m + one_if t * 2 ^ n < 2 ^ (n + 1)
+more-below t m n h = rw (add-one, pow-suc 2 n) (more-bound t m (2 ^ n) h)

@@ -1,12 +1,6 @@
 -- The digits of a number of one digit, and of a number of more: those of a tenth of it, and the last; and both put as
 -- text. Assumes nothing.
-use mathlib.Core.Path.{◌≡◌, sym, ap, ◌∙◌}
-use mathlib.Core.List.{List, [], ◌∷◌, ◌++◌}
-use Prim.Native.Nat.{ℕ, zero, suc, ◌+◌, ◌^◌, ◌-◌, ◌/◌, ◌%◌, ◌≤◌, ◌<◌}
-use native.Mathlib.Nat.{pow-suc}
-use native.Mathlib.Omega.{arith}
-use borrow.Author.Tests.{lt-ltb, le-ltb}
-use lib.ListN.{length, set}
+use Rattle.std.proofs.Common.{◌≡◌, sym, ap, ◌∙◌, List, [], ◌∷◌, ◌++◌, ℕ, zero, suc, ◌+◌, ◌^◌, ◌-◌, ◌/◌, ◌%◌, ◌≤◌, ◌<◌, pow-suc, arith, lt-ltb, le-ltb, length, set}
 use Rattle.numbers.proofs.Cases.{by_order}
 use Rattle.numbers.specs.Put.{Put}
 use Rattle.numbers.specs.Decimal.{glyph, digits, decimal}

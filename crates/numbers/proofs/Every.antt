@@ -1,10 +1,5 @@
 -- A test of every number below a bound. Assumes nothing.
-use mathlib.Core.Path.{◌≡◌, refl, ap₂, subst}
-use mathlib.Core.Bool.{Bool, true, ◌&&◌}
-use Prim.Native.Nat.{ℕ, zero, suc, ◌+◌, ◌<◌}
-use native.Mathlib.Nat.{le_refl, not-suc-le-zero}
-use native.Mathlib.Numerals.{add-one}
-use native.Mathlib.Omega.{arith}
+use Rattle.std.proofs.Common.{◌≡◌, refl, ap₂, subst, Bool, true, ◌&&◌, ℕ, zero, suc, ◌+◌, ◌<◌, le_refl, not-suc-le-zero, add-one, arith}
 use Rattle.numbers.specs.Numbers.{every}
 use Rattle.numbers.proofs.Cases.{by_order, both, same_test}
 

@@ -1,9 +1,5 @@
 -- The first number that passes a test. Assumes nothing.
-use mathlib.Core.Path.{◌≡◌, ◌∙◌, sym, subst}
-use mathlib.Core.Bool.{Bool, true, false}
-use Prim.Native.Nat.{ℕ, zero, suc, ◌+◌, ◌≤◌, ◌<◌}
-use native.Mathlib.Nat.{zero-add}
-use native.Mathlib.Omega.{arith}
+use Rattle.std.proofs.Common.{◌≡◌, ◌∙◌, sym, subst, Bool, true, false, ℕ, zero, suc, ◌+◌, ◌≤◌, ◌<◌, zero-add, arith}
 use Rattle.numbers.specs.Numbers.{first, first_from}
 use Rattle.numbers.proofs.Cases.{by-test, by_order}
 

@@ -10,7 +10,6 @@ pub mod Lowest
 pub mod Memory
 pub mod Sum
 pub mod Subsets
-pub mod Words
 pub mod Parts
 pub mod WordBytes
 pub mod Decimal

@@ -1,13 +1,8 @@
 -- The count of a number's trailing zeros is its lowest bit, and bit_and takes this bit away. Assumes nothing.
-use mathlib.Core.Path.{◌≡◌, ◌∙◌, refl, sym, ap, ap₂, subst}
-use mathlib.Core.Bool.{true, false}
-use Prim.Native.Nat.{ℕ, zero, suc, ◌+◌, ◌-◌, ◌*◌, ◌/◌, ◌%◌, ◌^◌, ◌<◌, min}
-use native.Mathlib.Nat.{add-zero, not-suc-le-zero, zero-lt-suc, div-lt_iff_lt-mul, pow-suc}
-use native.Mathlib.Omega.{arith}
-use borrow.Author.Tests.{eqb-true, eqb-false}
-use lib.Bits.{bit_and, and_step, and_self}
+use Rattle.std.proofs.Common.{◌≡◌, ◌∙◌, refl, sym, ap, ap₂, subst, true, false, ℕ, zero, suc, ◌+◌, ◌-◌, ◌*◌, ◌/◌, ◌%◌, ◌^◌, ◌<◌, min, add-zero, not-suc-le-zero, zero-lt-suc, div-lt_iff_lt-mul, pow-suc, arith, eqb-true, bit_and, eqb}
+use borrow.Author.Tests.{eqb-false}
+use lib.Bits.{and_step, and_self}
 use lib.Count.{count_trailing_zeros, under}
-use lib.Dec.{eqb}
 use Rattle.numbers.specs.Bits.{bit, IsLowestBit}
 use Rattle.numbers.proofs.Bits.{bit-odd, bit-half}
 

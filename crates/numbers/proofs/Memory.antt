@@ -1,22 +1,7 @@
 -- Lent memory that is filled, and written over. Assumes nothing.
-use mathlib.Core.Path.{◌≡◌, sym, ap, ap₂, ◌∙◌}
-use mathlib.Core.List.{List, ◌++◌, append-nil}
-use Prim.Native.Nat.{ℕ, zero, suc, ◌+◌, ◌-◌, ◌≤◌}
-use native.Mathlib.Omega.{arith}
-use lib.ListN.{length, drop, replicate, drop_of_length-le}
-use lib.Seq.{take_at, drop-append-add}
+use Rattle.std.proofs.Common.{◌≡◌, sym, ap, ap₂, ◌∙◌, List, ◌++◌, ℕ, zero, suc, ◌+◌, ◌-◌, arith, length, drop, replicate, take_at}
+use lib.Seq.{drop-append-add}
 use Rattle.numbers.specs.Numbers.{written}
-
--- a loop that fills from the front, at its end
-pub fill_end :
-    (i value : ℕ) (start bytes : List ℕ) → i ≡ length start → bytes ≡ replicate i value ++ drop i start
-    → bytes ≡ replicate (length start) value
-fill_end i value start bytes h e =
-    let k : length start ≤ i = omega arith in
-    e
-    ∙ ap (λ (l : List ℕ). replicate i value ++ l) (drop_of_length-le start k)
-    ∙ append-nil (replicate i value)
-    ∙ ap (λ (n : ℕ). replicate n value) h
 
 drop-replicate : (k m value : ℕ) → drop k (replicate m value) ≡ replicate (m - k) value
 drop-replicate zero m value = let e : m ≡ m - 0 = omega arith in ap (λ (n : ℕ). replicate n value) e

@@ -1,9 +1,7 @@
 -- A part of a number, between what stands above it and what stands below it. Assumes nothing.
-use mathlib.Core.Path.{◌≡◌, ◌∙◌, sym, ap}
-use Prim.Native.Nat.{ℕ, ◌+◌, ◌*◌, ◌/◌, ◌%◌, ◌<◌}
-use native.Mathlib.Nat.{div-div-eq-div-mul, div-add-mod', mul-add-div_right, mul-add-mod_self_right}
-use native.Mathlib.Nat.{div-eq_of_lt, mod-eq_of_lt, add-zero, lt_of_le_of_lt}
-use native.Mathlib.Omega.{arith}
+use Rattle.std.proofs.Common.{◌≡◌, ◌∙◌, sym, ap, ℕ, ◌+◌, ◌*◌, ◌/◌, ◌%◌, ◌<◌, div-add-mod', mod-eq_of_lt, add-zero, lt_of_le_of_lt, arith}
+use native.Mathlib.Nat.{div-div-eq-div-mul, mul-add-div_right, mul-add-mod_self_right}
+use native.Mathlib.Nat.{div-eq_of_lt}
 
 -- what stands above the lowest bits, and they
 pub above : (m x y : ℕ) → y < m → (x * m + y) / m ≡ x

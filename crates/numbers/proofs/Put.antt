@@ -1,11 +1,5 @@
 -- Text put behind text. Assumes nothing.
-use mathlib.Core.Path.{◌≡◌, refl, sym, ap, ◌∙◌}
-use mathlib.Core.List.{List, [], ◌∷◌, ◌++◌, append_assoc, append-nil}
-use Prim.Native.Nat.{ℕ, ◌+◌, ◌≤◌, ◌<◌}
-use native.Mathlib.Numerals.{add-one}
-use native.Mathlib.Omega.{arith}
-use lib.ListN.{length, take, get_or, set, length-append, length-set}
-use lib.Seq.{take-suc, take-suc-set, take_all}
+use Rattle.std.proofs.Common.{◌≡◌, refl, sym, ap, ◌∙◌, List, [], ◌∷◌, ◌++◌, append_assoc, append-nil, ℕ, ◌+◌, ◌<◌, add-one, arith, length, take, get_or, set, length-append, length-set, take-suc, take-suc-set}
 use Rattle.numbers.specs.Put.{Put}
 
 pub put-none : (text : List ℕ) (at : ℕ) → Put text text at [] at
@@ -37,8 +31,3 @@ put-word-turn start text word at i h k p =
     let e : take (i + 1) word ≡ take i word ++ (get_or word i 0 ∷ []) = ap (λ (j : ℕ). take j word) (add-one i) ∙ take-suc word i 0 h in
     let f : at + (i + 1) ≡ at + i + 1 = omega arith in
     rw (e, f) (put_then p (put_byte text (at + i) (get_or word i 0) k))
-
-pub put-word-end :
-    (start text word : List ℕ) (at i : ℕ) → length word ≤ i → Put start text at (take i word) (at + i)
-    → Put start text at word (at + i)
-put-word-end start text word at i h p = rw (take_all i word h) at p

@@ -1,12 +1,6 @@
 -- How many numbers below 2^n have the bits that are asked of them. Assumes nothing.
-use mathlib.Core.Path.{◌≡◌, ◌∙◌, refl, sym, ap, ap₂}
-use mathlib.Core.Bool.{Bool, true, false, not, ◌&&◌, ◌||◌, true≢false}
-use Prim.Native.Nat.{ℕ, zero, suc, ◌+◌, ◌*◌, ◌^◌, ◌/◌, ◌%◌, ◌<◌}
-use native.Mathlib.Nat.{pow-suc, le_refl, one-mul, add-zero}
-use native.Mathlib.Numerals.{add-one}
-use native.Mathlib.Omega.{arith}
+use Rattle.std.proofs.Common.{◌≡◌, ◌∙◌, refl, sym, ap, ap₂, Bool, true, false, not, ◌&&◌, ◌||◌, true≢false, ℕ, zero, suc, ◌+◌, ◌*◌, ◌^◌, ◌/◌, ◌%◌, ◌<◌, pow-suc, le_refl, one-mul, add-zero, add-one, arith, eqb}
 use lib.Pow.{high}
-use lib.Dec.{eqb}
 use Rattle.numbers.specs.Numbers.{sum, count, every, one_if}
 use Rattle.numbers.specs.Bits.{bit}
 use Rattle.numbers.proofs.Bits.{bit_high, bit-low}

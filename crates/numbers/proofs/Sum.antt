@@ -1,11 +1,5 @@
 -- Sums over the numbers below a bound. Assumes nothing.
-use mathlib.Core.Path.{◌≡◌, ◌∙◌, refl, sym, ap, ap₂}
-use mathlib.Core.Bool.{Bool, true, false, ◌&&◌}
-use Prim.Native.Nat.{ℕ, zero, suc, ◌+◌, ◌*◌, ◌<◌}
-use native.Mathlib.Nat.{add-zero, add-suc, zero-mul, one-mul, add-mul}
-use native.Mathlib.Omega.{arith}
-use borrow.Author.Tests.{eq-eqb, ne_eqb}
-use lib.Dec.{eqb}
+use Rattle.std.proofs.Common.{◌≡◌, ◌∙◌, refl, sym, ap, ap₂, Bool, true, false, ◌&&◌, ℕ, zero, suc, ◌+◌, ◌*◌, ◌<◌, add-zero, add-suc, zero-mul, one-mul, add-mul, arith, eq-eqb, ne_eqb, eqb}
 use Rattle.numbers.specs.Numbers.{sum, count, one_if}
 use Rattle.numbers.proofs.Cases.{by_order}
 

@@ -1,9 +1,5 @@
 -- The list of n numbers from k on. Assumes nothing.
-use mathlib.Core.Path.{◌≡◌, ◌∙◌, refl, sym, ap}
-use mathlib.Core.List.{List, [], ◌∷◌, ◌++◌}
-use Prim.Native.Nat.{ℕ, zero, suc, ◌+◌, ◌<◌}
-use native.Mathlib.Nat.{add-zero, add-suc, suc-add, not-suc-le-zero, le_of_suc-le-suc}
-use lib.ListN.{length, get_or}
+use Rattle.std.proofs.Common.{◌≡◌, ◌∙◌, refl, sym, ap, List, [], ◌∷◌, ◌++◌, ℕ, zero, suc, ◌+◌, ◌<◌, add-zero, add-suc, suc-add, not-suc-le-zero, le_of_suc-le-suc, length, get_or}
 use Rattle.numbers.specs.Numbers.{upto}
 
 pub length-upto : (k n : ℕ) → length (upto k n) ≡ n

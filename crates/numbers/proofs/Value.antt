@@ -1,20 +1,9 @@
 -- The number that digits stand for, read from the first to the last; it gives a number back from its decimal digits,
 -- and digits with no 0 in front from their number. And the digits of a number: what they are, and how many.
 -- Assumes nothing.
-use mathlib.Core.Path.{◌≡◌, refl, sym, ap, ◌∙◌}
-use mathlib.Core.List.{
-  List,
-  [],
-  ◌∷◌,
-  ◌++◌,
-  append_assoc,
-  append-nil,
-  Memᴰ,
-}
-use mathlib.Core.Logic.{⊎_elim}
-use Prim.Native.Nat.{ℕ, zero, suc, ◌+◌, ◌*◌, ◌^◌, ◌-◌, ◌/◌, ◌%◌, ◌≤◌, ◌<◌}
-use native.Mathlib.Omega.{arith}
-use lib.ListN.{length, get_or, length-append, get_or-append}
+use Rattle.std.proofs.Common.{◌≡◌, refl, sym, ap, ◌∙◌, List, [], ◌∷◌, ◌++◌, append_assoc, append-nil, ⊎_elim, ℕ, zero, suc, ◌+◌, ◌*◌, ◌^◌, ◌-◌, ◌/◌, ◌%◌, ◌≤◌, ◌<◌, arith, length, get_or, length-append}
+use mathlib.Core.List.{Memᴰ}
+use lib.ListN.{get_or-append}
 use Rattle.numbers.specs.Decimal.{glyph, decimal}
 use Rattle.numbers.proofs.Cases.{by_order}
 use Rattle.numbers.proofs.Decimal.{decimal-one, decimal-more, places-left}

@@ -1,12 +1,6 @@
 -- A number of 64 bits as eight bytes among others, and eight bytes as such a number. Assumes nothing.
-use mathlib.Core.Path.{◌≡◌, ◌∙◌, refl, sym, ap, ap₂}
-use mathlib.Core.List.{List, [], ◌∷◌, ◌++◌, map}
-use Prim.Native.Nat.{ℕ, zero, suc, ◌+◌, ◌*◌, ◌/◌, ◌^◌, ◌≤◌, ◌<◌}
-use native.Mathlib.Nat.{add-zero, add_assoc, zero-add, div-one, pow-suc}
-use native.Mathlib.Numerals.{add-one, add-two, add-three, add-four, add_five, add_six, add_seven}
-use native.Mathlib.Omega.{arith}
-use lib.ListN.{length, take, drop, get_or}
-use lib.Seq.{get_or-append-add, drop-cons}
+use Rattle.std.proofs.Common.{◌≡◌, ◌∙◌, refl, sym, ap, ap₂, List, [], ◌∷◌, ◌++◌, map, ℕ, zero, suc, ◌+◌, ◌*◌, ◌/◌, ◌^◌, ◌≤◌, ◌<◌, add-zero, add_assoc, zero-add, div-one, pow-suc, add-one, arith, length, take, drop, get_or, get_or-append-add, drop-cons}
+use native.Mathlib.Numerals.{add-two, add-three, add-four, add_five, add_six, add_seven}
 use Rattle.numbers.specs.Numbers.{number, field, upto}
 use Rattle.numbers.specs.Bytes.{word_bytes}
 use Rattle.numbers.proofs.Parts.{part, joined}

@@ -1,10 +1,6 @@
 -- What the check of a pattern answers, case by case. Assumes nothing.
-use mathlib.Core.Path.{◌≡◌, ◌∙◌, sym, ap}
-use mathlib.Core.Bool.{true, false}
-use mathlib.Core.List.{List}
-use Prim.Native.Nat.{ℕ, ◌+◌, ◌*◌, ◌≤◌, ◌<◌}
-use borrow.Author.Tests.{lt-ltb, le-ltb, eq-eqb, ne_eqb, ltb-false, eqb-true}
-use lib.ListN.{length}
+use Rattle.std.proofs.Common.{◌≡◌, ◌∙◌, sym, ap, true, false, List, ℕ, ◌+◌, ◌*◌, ◌≤◌, ◌<◌, lt-ltb, le-ltb, eq-eqb}
+use Rattle.std.proofs.Common.{ne_eqb, ltb-false, eqb-true, length}
 use Rattle.patterns.specs.declared.Checked.{Checked}
 use Rattle.patterns.specs.Patterns.{header_bytes, condition_bytes, most_variables, most_conditions, edition}
 use Rattle.patterns.specs.Patterns.{variable_count, condition_count, header_zero, header_broken}

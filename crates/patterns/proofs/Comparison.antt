@@ -1,14 +1,10 @@
 -- Laws of the comparison: raising by 2^31 keeps the order of whole numbers, an order says what it is named after, and
 -- the table of operators says what each operator's sign says. Assumes nothing.
-use mathlib.Core.Path.{◌≡◌, ◌∙◌, refl, sym, ap, ap₂}
-use mathlib.Core.Bool.{Bool, true, false, xor, true≢false}
-use mathlib.Core.List.{List, [], ◌∷◌}
-use Prim.Native.Nat.{ℕ, suc, ◌+◌, ◌-◌, ◌%◌, ◌^◌, ◌≤◌, ◌<◌}
-use native.Mathlib.Omega.{arith}
-use borrow.Author.Tests.{lt-ltb, le-ltb, le-leb, lt-leb, eq-eqb, ne_eqb, ltb-true, ltb-false, eqb-true, eqb-false}
-use lib.Dec.{eqb, ltb, leb}
-use lib.IntN.{ℤ, pos, negsuc}
-use lib.ListN.{get_or}
+use Rattle.std.proofs.Common.{◌≡◌, ◌∙◌, refl, sym, ap, ap₂, Bool, true, false, true≢false, List, [], ◌∷◌, ℕ, suc, ◌+◌}
+use Rattle.std.proofs.Common.{◌-◌, ◌%◌, ◌^◌, ◌≤◌, ◌<◌, arith, lt-ltb, le-ltb, le-leb, eq-eqb, ne_eqb, ltb-true}
+use Rattle.std.proofs.Common.{ltb-false, eqb-true, eqb, ltb, leb, ℤ, pos, negsuc, get_or}
+use mathlib.Core.Bool.{xor}
+use borrow.Author.Tests.{lt-leb, eqb-false}
 use lib.Signed.{lt_z}
 use Rattle.patterns.specs.declared.Condition.{Condition}
 use Rattle.patterns.specs.Patterns.{last_operator}

@@ -1,23 +1,17 @@
 -- Places filled one after the other. Assumes nothing.
-use mathlib.Core.Path.{◌≡◌, ◌∙◌, refl, sym, ap, ap₂}
-use mathlib.Core.List.{List, [], ◌∷◌, ◌++◌, map, append_assoc}
-use Prim.Native.Nat.{ℕ, zero, suc, ◌+◌, ◌-◌, ◌≤◌, ◌<◌}
-use native.Mathlib.Nat.{zero-add, not-suc-le-zero, le_of_suc-le-suc}
-use native.Mathlib.Numerals.{add-one}
-use native.Mathlib.Omega.{arith}
-use lib.ListN.{length, get_or, set, replicate, length-append, length-map, length-replicate, get_or-append}
+use Rattle.std.proofs.Common.{◌≡◌, ◌∙◌, refl, sym, ap, ap₂, List, [], ◌∷◌, ◌++◌, map, append_assoc, ℕ, zero, suc, ◌+◌}
+use Rattle.std.proofs.Common.{◌-◌, ◌≤◌, ◌<◌, zero-add, not-suc-le-zero, le_of_suc-le-suc, add-one, arith, length}
+use Rattle.std.proofs.Common.{get_or, set, replicate, length-append}
+use lib.ListN.{length-map, length-replicate, get_or-append}
 use lib.Seq.{set_at}
+use Rattle.std.proofs.lemmas.List.{map-append}
 use Rattle.numbers.specs.Numbers.{upto}
 use Rattle.numbers.proofs.Upto.{length-upto, upto_snoc, get_or-upto}
 use Rattle.patterns.specs.Checked.{filled}
 
-map_snoc : {A : Type 0} (f : ℕ → A) (l : List ℕ) (x : ℕ) → map f (l ++ (x ∷ [])) ≡ map f l ++ (f x ∷ [])
-map_snoc f [] x = refl
-map_snoc f (y ∷ l) x = ap (λ r. f y ∷ r) (map_snoc f l x)
-
 module _ {A : Type 0} (room : ℕ) (empty : A) (f : ℕ → A) where
   map-upto : (i : ℕ) → map f (upto 0 (suc i)) ≡ map f (upto 0 i) ++ (f i ∷ [])
-  map-upto i = ap (map f) (upto_snoc 0 i) ∙ map_snoc f (upto 0 i) (0 + i) ∙ ap (λ (k : ℕ). map f (upto 0 i) ++ (f k ∷ [])) (zero-add i)
+  map-upto i = ap (map f) (upto_snoc 0 i) ∙ map-append f (upto 0 i) ((0 + i) ∷ []) ∙ ap (λ (k : ℕ). map f (upto 0 i) ++ (f k ∷ [])) (zero-add i)
 
   size : (i : ℕ) → length (map f (upto 0 i)) ≡ i
   size i = length-map (upto 0 i) f ∙ length-upto 0 i

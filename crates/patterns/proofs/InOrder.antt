@@ -1,25 +1,21 @@
 -- A checked pattern is in order: what the check accepts keeps the rules of the bytes. Assumes nothing.
-use mathlib.Core.Path.{◌≡◌, refl, sym, ap, subst}
-use mathlib.Core.Bool.{false, not}
-use mathlib.Core.List.{List}
-use Prim.Native.Nat.{ℕ, zero, suc, ◌+◌, ◌≤◌, ◌<◌}
+use Rattle.std.proofs.Common.{◌≡◌, ◌∙◌, refl, sym, ap, subst, false, not, List, Ok, ℕ, zero, suc, ◌+◌, ◌≤◌, ◌<◌}
+use Rattle.std.proofs.Common.{arith, ltb-false, leb-false, eqb-true, ne_eqb, eqb, leb, length}
 use native.Mathlib.Numerals.{unary_clauses}
-use native.Mathlib.Omega.{arith}
-use borrow.Author.Tests.{ltb-false, leb-false, eqb-true, eqb-false, ne_eqb}
-use lib.Dec.{eqb, leb}
-use lib.ListN.{length}
+use borrow.Author.Tests.{eqb-false}
 use Rattle.numbers.specs.Numbers.{count}
 use Rattle.numbers.proofs.Cases.{by-test, by_order, neither, not-not}
 use Rattle.numbers.proofs.Count.{count-ext}
 use Rattle.numbers.proofs.First.{first-fails}
 use Rattle.patterns.specs.declared.Checked.{Checked}
 use Rattle.patterns.specs.declared.Condition.{Condition}
+use Rattle.patterns.specs.declared.Pattern.{Pattern}
 use Rattle.patterns.specs.Patterns.{header_bytes, most_variables, most_conditions, most_sets, most_in_set}
 use Rattle.patterns.specs.Patterns.{last_attribute, last_operator, header_broken, variable_count, condition_count}
 use Rattle.patterns.specs.Patterns.{set_number, members, least_set, greatest_set, variable_broken, condition_of}
 use Rattle.patterns.specs.Patterns.{condition_word, condition_zero, condition_broken, form_broken}
 use Rattle.patterns.specs.Checked.{pattern_up_to, pattern_of, refused, first_bad_variable, first_bad_condition}
-use Rattle.patterns.specs.Checked.{pattern_answer, condition_at, set_of, InOrder}
+use Rattle.patterns.specs.Checked.{pattern_answer, checked_of, condition_at, set_of, InOrder}
 use Rattle.patterns.proofs.Filled.{filled_at}
 use Rattle.patterns.proofs.Answers.{header-in-order, whole_length, answer-short, answer-header, answer-length}
 use Rattle.patterns.proofs.Answers.{answer-variable, answer-condition, answer-pattern}
@@ -123,10 +119,6 @@ condition-in-order n word some h =
 -- ## The record of fixed room has what the bytes have
 
 module _ (bytes : List ℕ) where
-  pub count_of : (pattern_of bytes).n ≡ variable_count bytes
-  unfolding pattern_of pattern_up_to
-  count_of = refl
-
   pub set-of : (v : ℕ) → v < variable_count bytes → set_of (pattern_of bytes) v ≡ set_number bytes v
   unfolding pattern_of pattern_up_to
   set-of v h = filled_at most_variables 0 (set_number bytes) (variable_count bytes) v 0 h
@@ -228,3 +220,15 @@ module _ (bytes : List ℕ) where
 -- what the check accepts is in order
 pub accepted-in-order : (bytes : List ℕ) → (pattern_answer bytes).code ≡ 0 → InOrder (pattern_answer bytes).pattern
 accepted-in-order bytes z = subst InOrder (sym (accepted-pattern bytes z)) (pattern-in-order bytes (accepted bytes z))
+
+-- ## A pattern that `read` gives
+
+module _ (bytes : List ℕ) (p : Pattern) (is : checked_of (Ok p) ≡ pattern_answer bytes) where
+  pub read-accepted : (pattern_answer bytes).code ≡ 0
+  read-accepted = sym (ap (λ (a : Checked). a.code) is)
+
+  pub read-pattern : p ≡ pattern_of bytes
+  read-pattern = ap (λ (a : Checked). a.pattern) is ∙ accepted-pattern bytes read-accepted
+
+  pub read-in-order : InOrder p
+  read-in-order = subst (λ (a : Checked). InOrder a.pattern) (sym is) (accepted-in-order bytes read-accepted)

@@ -1,11 +1,7 @@
 -- What operator 5, !=, asks: a condition with it holds exactly where the two whole numbers are different, and so
 -- exactly where the same condition with operator 0, =, does not, for one and the same pair of events. It is the last
 -- operator that the check lets through. Assumes nothing.
-use mathlib.Core.Path.{◌≡◌, ◌∙◌, refl, sym, ap}
-use mathlib.Core.Bool.{true, false, not}
-use mathlib.Core.List.{List, [], ◌∷◌}
-use Prim.Native.Nat.{ℕ, ◌*◌, ◌/◌, ◌%◌}
-use lib.IntN.{ℤ}
+use Rattle.std.proofs.Common.{◌≡◌, ◌∙◌, refl, sym, ap, true, false, not, List, [], ◌∷◌, ℕ, ◌*◌, ◌/◌, ◌%◌, ℤ}
 use Rattle.patterns.specs.declared.Condition.{Condition}
 use Rattle.numbers.specs.Numbers.{number, first, first_from, count}
 use Rattle.patterns.specs.Patterns.{header, header_broken, set_number, variable_zero, least_set, greatest_set}

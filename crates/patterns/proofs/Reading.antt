@@ -1,16 +1,12 @@
 -- The checked pattern, read from the bytes one variable and one condition after the other. Assumes nothing.
-use mathlib.Core.Path.{◌≡◌, ◌∙◌, ap}
-use mathlib.Core.Bool.{Bool, false}
-use mathlib.Core.List.{List}
-use Prim.Native.Nat.{ℕ, ◌+◌, ◌≤◌, ◌<◌}
-use lib.ListN.{length, set}
+use Rattle.std.proofs.Common.{◌≡◌, ◌∙◌, Bool, false, List, ℕ, ◌+◌, ◌<◌, set}
 use Rattle.numbers.specs.Numbers.{upto}
 use Rattle.patterns.specs.declared.Condition.{Condition}
 use Rattle.patterns.specs.declared.Pattern.{Pattern}
 use Rattle.patterns.specs.Patterns.{most_variables, most_conditions, variable_count, condition_count, duration}
 use Rattle.patterns.specs.Patterns.{set_number, group_flag, condition_of, condition_word}
 use Rattle.patterns.specs.Checked.{filled, pattern_up_to, with_condition, blank}
-use Rattle.patterns.proofs.Filled.{filled_more, filled-length}
+use Rattle.patterns.proofs.Filled.{filled_more}
 
 -- the pattern with other sets and groups
 abbrev pub with_sets : Pattern → List ℕ → List Bool → Pattern
@@ -88,14 +84,3 @@ module _ (bytes : List ℕ) where
         c = condition_count bytes;
         duration = duration bytes;
       })
-
-  -- the places of the sets and groups
-  pub sets-room :
-      (p : Pattern) (v : ℕ) → v ≤ most_variables → p ≡ pattern_up_to bytes v 0 → length p.sets ≡ most_variables
-  unfolding pattern_up_to
-  sets-room p v h e = ap (λ (q : Pattern). length q.sets) e ∙ filled-length most_variables 0 (set_number bytes) v h
-
-  pub groups-room :
-      (p : Pattern) (v : ℕ) → v ≤ most_variables → p ≡ pattern_up_to bytes v 0 → length p.groups ≡ most_variables
-  unfolding pattern_up_to
-  groups-room p v h e = ap (λ (q : Pattern). length q.groups) e ∙ filled-length most_variables false (group_flag bytes) v h

@@ -1,5 +1,5 @@
 -- The checked pattern, one record of fixed room, and what the check of a pattern answers.
-use Rattle.std.specs.Prelude.{◌≡◌, Bool, true, false, List, map, ◌++◌, ℕ, suc, ◌+◌, ◌-◌, ◌*◌, ◌≤◌, ◌<◌, eqb, ltb, length, get_or, set, replicate}
+use Rattle.std.specs.Prelude.{◌≡◌, Bool, true, false, List, map, ◌++◌, ℕ, suc, ◌+◌, ◌-◌, ◌*◌, ◌≤◌, ◌<◌, eqb, ltb, length, get_or, set, replicate, Result, Ok, Err}
 use Rattle.patterns.specs.declared.Condition.{Condition}
 use Rattle.patterns.specs.declared.Pattern.{Pattern}
 use Rattle.patterns.specs.declared.Checked.{Checked}
@@ -8,6 +8,8 @@ use Rattle.patterns.specs.Patterns.{variable_count, condition_count, duration, s
 use Rattle.patterns.specs.Patterns.{condition_of, condition_word, condition_broken, most_sets, most_in_set}
 use Rattle.patterns.specs.Patterns.{last_attribute, last_operator}
 use Rattle.numbers.specs.Numbers.{upto, first, count}
+use Rattle.records.specs.declared.refusals.Refusal.{Refusal}
+use Rattle.records.specs.Refusals.{code_of, place_of}
 
 -- Serves rule 2.4: so many places, the first of them filled by f, those beyond the count left empty
 unfoldable pub filled : {A : Type 0} → ℕ → A → (ℕ → A) → ℕ → List A
@@ -104,6 +106,11 @@ pattern_answer bytes =
             ]
       ]
     ]
+
+-- Serves rules 2.4, 7.3: what the check answers for a pattern that is read, and for one that is refused
+abbrev pub checked_of : Result Pattern Refusal → Checked
+checked_of (Ok p) = record { code = 0; place = 0; pattern = p }
+checked_of (Err r) = refused (code_of r) (place_of r)
 
 -- Rule 2.4: condition i of a checked pattern
 unfoldable pub condition_at : Pattern → ℕ → Condition

@@ -1,15 +1,18 @@
 // What the bytes of a pattern mean, the check of a pattern, and when a condition holds.
 #![tactic(auto)]
 
-ghost use Rattle.std.specs.Prelude.{◌≡◌, ◌+◌, ◌*◌, ◌<◌, ◌≤◌, eqb, pos, length};
-ghost use Rattle.numbers.specs.Numbers.{one_if, first};
+ghost use Rattle.std.specs.Prelude.{◌≡◌, ◌+◌, ◌*◌, ◌<◌, ◌≤◌, MatchResult, pos, length};
 ghost use Rattle.records.specs.Records.{record_bytes, record_at, class_of};
 ghost use Rattle.patterns.specs.Patterns.{header_bytes, most_variables, most_conditions, condition_bytes, header};
 ghost use Rattle.patterns.specs.Patterns.{header_broken, variable_count, condition_count, set_number, group_flag};
 ghost use Rattle.patterns.specs.Patterns.{members, least_set, greatest_set, variable_broken, condition_of};
 ghost use Rattle.patterns.specs.Patterns.{condition_word, condition_broken, form_broken, last_operator};
-ghost use Rattle.patterns.specs.Checked.{pattern_up_to, with_condition, blank, pattern_answer, refused};
+ghost use Rattle.patterns.specs.Checked.{pattern_up_to, with_condition, blank, pattern_answer};
+ghost use Rattle.patterns.specs.Checked.{checked_of, condition_at};
+ghost use Rattle.patterns.specs.Checked.{first_bad_variable, first_bad_condition};
 ghost use Rattle.patterns.specs.Comparison.{signed, value, constant_value, orders, order_of, meets, raise};
+
+use records::Refusal;
 
 const EDITION: u64 = 1;
 
@@ -25,9 +28,28 @@ const MOST_SETS: u8 = 8;
 
 const MOST_IN_SET: usize = 6;
 
-const LAST_ATTRIBUTE: u8 = 5;
+// The attributes by their numbers (Rule 3.1), which the bytes and the checked pattern hold and `value` goes by: an enum
+// would be made of a number and turned back into it at each use.
+pub const CORE: u8 = 0;
+
+pub const TYPE: u8 = 1;
+
+pub const CLASS: u8 = 2;
+
+pub const SLOT: u8 = 3;
+
+pub const AMOUNT: u8 = 4;
+
+pub const WAVE: u8 = 5;
+
+const LAST_ATTRIBUTE: u8 = WAVE;
 
 const LAST_OPERATOR: u8 = 5;
+
+// The operator = (Rule 3.2), and the form of a condition that compares with its constant (Rule 2.3), by their numbers.
+pub const EQUAL: u8 = 0;
+
+pub const WITH_CONSTANT: u8 = 0;
 
 // Rule 2.4: a checked pattern: of each variable its set number and group flag, of each condition its fields, beside the
 // counts n and c and the duration. Places that are not used are 0.
@@ -47,6 +69,25 @@ pub struct Pattern {
     pub duration: u64,
 }
 
+impl Pattern {
+    // Condition i.
+    #[tactic(auto, unfolding(crate::specs::Checked::condition_at))]
+    pub fn condition(&self, i: usize) -> Condition
+        requires { i < most_conditions }
+        ensures { result ≡ condition_at self.now i }
+    {
+        Condition {
+            variable: self.variables[i],
+            attribute: self.attributes[i],
+            operator: self.operators[i],
+            form: self.forms[i],
+            variable2: self.variables2[i],
+            attribute2: self.attributes2[i],
+            constant: self.constants[i],
+        }
+    }
+}
+
 // Rule 2.3: one condition.
 #[derive(Clone, Copy)]
 pub struct Condition {
@@ -59,7 +100,8 @@ pub struct Condition {
     pub constant: u32,
 }
 
-// Rule 2.4: the refusal's number and place with a blank pattern, or code 0 with the checked pattern.
+// Rule 2.4: the refusal's number and place with a blank pattern, or code 0 with the checked pattern; `read` gives the
+// same as a `Result`.
 #[derive(Clone, Copy)]
 pub struct Checked {
     pub code: u8,
@@ -68,6 +110,7 @@ pub struct Checked {
 }
 
 // The header as one number.
+#[tactic(auto, unfolding(crate::specs::Patterns::header))]
 fn header_word(pattern: &[u8]) -> u64
     requires { header_bytes ≤ length pattern.now }
     ensures { result ≡ header pattern.now }
@@ -90,31 +133,21 @@ fn count_conditions(pattern: &[u8]) -> usize
 }
 
 // Refusal 2.
+#[tactic(auto, unfolding(crate::specs::Patterns::header_broken))]
 fn is_header_broken(pattern: &[u8]) -> bool
     requires { header_bytes ≤ length pattern.now }
     ensures { result ≡ header_broken pattern.now }
 {
     let head = header_word(pattern);
     let edition = (head >> 60) % 16;
-    let n = ((head >> 56) % 16) as usize;
-    let c = ((head >> 48) % 256) as usize;
+    let n = count_variables(pattern);
+    let c = count_conditions(pattern);
     let zero = (head >> 40) % 256;
-    if edition != EDITION {
-        return true;
-    }
-    if n < 1 {
-        return true;
-    }
-    if MOST_VARIABLES < n {
-        return true;
-    }
-    if MOST_CONDITIONS < c {
-        return true;
-    }
-    zero != 0
+    edition != EDITION || n < 1 || MOST_VARIABLES < n || MOST_CONDITIONS < c || zero != 0
 }
 
 // The set number of variable v.
+#[tactic(auto, unfolding(crate::specs::Patterns::set_number))]
 fn set_number(pattern: &[u8], v: usize) -> u8
     requires { header_bytes + v < length pattern.now }
     ensures { result ≡ set_number pattern.now v }
@@ -123,6 +156,7 @@ fn set_number(pattern: &[u8], v: usize) -> u8
 }
 
 // Whether variable v is a group variable.
+#[tactic(auto, unfolding(crate::specs::Patterns::group_flag))]
 fn group_flag(pattern: &[u8], v: usize) -> bool
     requires { header_bytes + v < length pattern.now }
     ensures { result ≡ group_flag pattern.now v }
@@ -130,86 +164,69 @@ fn group_flag(pattern: &[u8], v: usize) -> bool
     (numbers::byte(pattern, HEADER_BYTES + v) >> 3) % 2 == 1
 }
 
-fn one_if_equal(a: u8, b: u8) -> usize
-    ensures { result ≡ one_if (eqb a b) }
-{
-    if a == b {
-        return 1;
-    }
-    0
-}
-
 // How many of the first k variables are in the set.
 fn members_of(pattern: &[u8], set: u8, k: usize) -> usize
     requires { header_bytes + k ≤ length pattern.now }
     ensures { result ≡ members pattern.now set k }
 {
-    let mut count: usize = 0;
-    let mut u = 0;
-    while u < k {
-        count = count + one_if_equal(set_number(pattern, u), set);
-        u += 1;
-    }
-    count
+    numbers::count_that(k, |u| set_number(pattern, u) == set)
 }
 
+#[tactic(auto, unfolding(crate::specs::Patterns::least_set))]
 fn least_set(pattern: &[u8], v: usize) -> u8
     requires { header_bytes + v < length pattern.now }
     ensures { result ≡ least_set pattern.now v }
 {
     if v == 0 {
-        return 1;
+        1
+    } else {
+        set_number(pattern, v - 1)
     }
-    set_number(pattern, v - 1)
 }
 
+#[tactic(auto, unfolding(crate::specs::Patterns::greatest_set, crate::specs::Patterns::set_number))]
 fn greatest_set(pattern: &[u8], v: usize) -> u8
     requires { header_bytes + v < length pattern.now }
     ensures { result ≡ greatest_set pattern.now v }
 {
     if v == 0 {
-        return 1;
+        1
+    } else {
+        set_number(pattern, v - 1) + 1
     }
-    set_number(pattern, v - 1) + 1
 }
 
 // Refusal 3.
+#[tactic(auto, unfolding(crate::specs::Patterns::variable_broken, crate::specs::Patterns::variable_zero))]
 fn is_variable_broken(pattern: &[u8], v: usize) -> bool
     requires { header_bytes + v < length pattern.now }
     ensures { result ≡ variable_broken pattern.now v }
 {
     let set = set_number(pattern, v);
-    if set < least_set(pattern, v) {
-        return true;
-    }
-    if greatest_set(pattern, v) < set {
-        return true;
-    }
-    if MOST_SETS < set {
-        return true;
-    }
-    if MOST_IN_SET < members_of(pattern, set, v + 1) {
-        return true;
-    }
-    numbers::byte(pattern, HEADER_BYTES + v) % 8 != 0
+    set < least_set(pattern, v)
+        || greatest_set(pattern, v) < set
+        || MOST_SETS < set
+        || MOST_IN_SET < members_of(pattern, set, v + 1)
+        || numbers::byte(pattern, HEADER_BYTES + v) % 8 != 0
 }
 
-// The first variable against its rules, or n.
-fn first_bad_variable(pattern: &[u8], n: usize) -> usize
-    requires { header_bytes + n ≤ length pattern.now }
-    ensures { result ≡ first (variable_broken pattern.now) n }
+// Refusal 3, at the first variable against its rules.
+#[tactic(auto, unfolding(crate::specs::Checked::first_bad_variable))]
+fn check_variables(pattern: &[u8], n: usize) -> Result<(), Refusal>
+    requires { (n ≡ variable_count pattern.now) × (header_bytes + n ≤ length pattern.now) }
+    ensures { MatchResult result (λ _. n ≤ first_bad_variable pattern.now)
+        (λ e. (first_bad_variable pattern.now < n) × (e ≡ Refusal.Variable (first_bad_variable pattern.now))) }
 {
-    let mut v = 0;
-    while v < n {
-        if is_variable_broken(pattern, v) {
-            return v;
-        }
-        v += 1;
+    let first = numbers::first_that(n, |v| is_variable_broken(pattern, v));
+    if first < n {
+        Err(Refusal::Variable(first as u32))
+    } else {
+        Ok(())
     }
-    n
 }
 
-// The fields of a condition's 64 bits.
+// The fields of a condition's 64 bits: a function of its own name, which `firing` calls, and no `From<u64>`.
+#[tactic(auto, unfolding(crate::specs::Patterns::condition_of))]
 pub fn unpack_condition(word: u64) -> Condition
     ensures { result ≡ condition_of word }
 {
@@ -224,61 +241,60 @@ pub fn unpack_condition(word: u64) -> Condition
     }
 }
 
+#[tactic(auto, unfolding(crate::specs::Patterns::form_broken))]
 fn is_form_broken(n: u8, k: Condition) -> bool
     ensures { result ≡ form_broken n k }
 {
-    if k.form == 0 {
-        if k.variable2 != 0 {
-            return true;
-        }
-        return k.attribute2 != 0;
+    if k.form == WITH_CONSTANT {
+        k.variable2 != 0 || k.attribute2 != 0
+    } else {
+        k.constant != 0 || n <= k.variable2 || LAST_ATTRIBUTE < k.attribute2
     }
-    if k.constant != 0 {
-        return true;
-    }
-    if n <= k.variable2 {
-        return true;
-    }
-    LAST_ATTRIBUTE < k.attribute2
 }
 
 // Refusal 4.
+#[tactic(auto, unfolding(crate::specs::Patterns::condition_broken, crate::specs::Patterns::condition_zero))]
 fn is_condition_broken(n: u8, word: u64) -> bool
     ensures { result ≡ condition_broken n word }
 {
     let k = unpack_condition(word);
-    if n <= k.variable {
-        return true;
-    }
-    if LAST_ATTRIBUTE < k.attribute {
-        return true;
-    }
-    if LAST_OPERATOR < k.operator {
-        return true;
-    }
-    if (word >> 32) % 16384 != 0 {
-        return true;
-    }
-    is_form_broken(n, k)
+    n <= k.variable
+        || LAST_ATTRIBUTE < k.attribute
+        || LAST_OPERATOR < k.operator
+        || (word >> 32) % 16384 != 0
+        || is_form_broken(n, k)
 }
 
-// The first condition that is broken, or c.
-fn first_bad_condition(pattern: &[u8], n: usize, c: usize) -> usize
-    requires { (n ≡ variable_count pattern.now) × (header_bytes + n + condition_bytes * c ≤ length pattern.now) }
-    ensures { result ≡ first
-        (λ i. condition_broken (variable_count pattern.now) (condition_word pattern.now i)) c }
+// The 64 bits of condition i, behind n variables.
+#[tactic(auto, unfolding(crate::specs::Patterns::condition_word))]
+fn condition_word(pattern: &[u8], n: usize, i: usize) -> u64
+    requires { (n ≡ variable_count pattern.now)
+        × (header_bytes + n + condition_bytes * (i + 1) ≤ length pattern.now) }
+    ensures { result ≡ condition_word pattern.now i }
 {
-    let mut i = 0;
-    while i < c {
-        let word = numbers::number8(pattern, HEADER_BYTES + n + CONDITION_BYTES * i);
-        if is_condition_broken(n as u8, word) {
-            return i;
-        }
-        i += 1;
-    }
-    c
+    numbers::number8(pattern, HEADER_BYTES + n + CONDITION_BYTES * i)
 }
 
+// Refusal 4, at the first condition that is broken.
+#[tactic(auto, unfolding(crate::specs::Checked::first_bad_condition))]
+fn check_conditions(pattern: &[u8], n: usize, c: usize) -> Result<(), Refusal>
+    requires { (n ≡ variable_count pattern.now) × (c ≡ condition_count pattern.now)
+        × (header_bytes + n + condition_bytes * c ≤ length pattern.now) }
+    ensures { MatchResult result (λ _. c ≤ first_bad_condition pattern.now)
+        (λ e. (first_bad_condition pattern.now < c) × (e ≡ Refusal.Condition (first_bad_condition pattern.now))) }
+{
+    let first = numbers::first_that(
+        c,
+        |i| is_condition_broken(n as u8, condition_word(pattern, n, i)),
+    );
+    if first < c {
+        Err(Refusal::Condition(first as u32))
+    } else {
+        Ok(())
+    }
+}
+
+#[tactic(auto, unfolding(crate::specs::Checked::blank))]
 fn blank_pattern() -> Pattern
     ensures { result ≡ blank }
 {
@@ -298,105 +314,107 @@ fn blank_pattern() -> Pattern
     }
 }
 
-fn refusal(code: u8, place: u32) -> Checked
-    ensures { result ≡ refused code place }
-{
-    Checked {
-        code: code,
-        place: place,
-        pattern: blank_pattern(),
-    }
-}
-
 // The pattern with the counts and the duration, and no variable or condition yet.
 fn with_counts(pattern: &[u8]) -> Pattern
     requires { header_bytes ≤ length pattern.now }
     ensures { result ≡ pattern_up_to pattern.now 0 0 }
 {
-    let mut p = blank_pattern();
-    p.n = count_variables(pattern);
-    p.c = count_conditions(pattern);
-    p.duration = header_word(pattern) % 1099511627776;
-    p
+    Pattern {
+        n: count_variables(pattern),
+        c: count_conditions(pattern),
+        duration: header_word(pattern) % 1099511627776,
+        ..blank_pattern()
+    }
 }
 
-// The pattern with its n variables.
-fn with_variables(pattern: &[u8], n: usize, p: Pattern) -> Pattern
+// The n variables into the pattern.
+fn set_variables(pattern: &[u8], n: usize, p: &mut Pattern)
     requires { (n ≤ most_variables) × (header_bytes + n ≤ length pattern.now)
-        × (p ≡ pattern_up_to pattern.now 0 0) }
-    ensures { result ≡ pattern_up_to pattern.now n 0 }
+        × (p.old ≡ pattern_up_to pattern.now 0 0) }
+    ensures { p.new ≡ pattern_up_to pattern.now n 0 }
 {
-    let mut q = p;
-    let mut v = 0;
-    while v < n {
-        q.sets[v] = set_number(pattern, v);
-        q.groups[v] = group_flag(pattern, v);
-        v += 1;
+    for v in 0..n {
+        p.sets[v] = set_number(pattern, v);
+        p.groups[v] = group_flag(pattern, v);
     }
-    q
 }
 
-// The pattern with condition i.
-fn with_condition(p: Pattern, i: usize, k: Condition) -> Pattern
+// Condition i into the pattern.
+fn set_condition(p: &mut Pattern, i: usize, k: Condition)
     requires { i < most_conditions }
-    ensures { result ≡ with_condition p i k }
+    ensures { p.new ≡ with_condition p.old i k }
 {
-    let mut q = p;
-    q.variables[i] = k.variable;
-    q.attributes[i] = k.attribute;
-    q.operators[i] = k.operator;
-    q.forms[i] = k.form;
-    q.variables2[i] = k.variable2;
-    q.attributes2[i] = k.attribute2;
-    q.constants[i] = k.constant;
-    q
+    p.variables[i] = k.variable;
+    p.attributes[i] = k.attribute;
+    p.operators[i] = k.operator;
+    p.forms[i] = k.form;
+    p.variables2[i] = k.variable2;
+    p.attributes2[i] = k.attribute2;
+    p.constants[i] = k.constant;
 }
 
-// The pattern with its c conditions.
-fn with_conditions(pattern: &[u8], n: usize, c: usize, p: Pattern) -> Pattern
+// The c conditions into the pattern, which has its variables.
+fn set_conditions(pattern: &[u8], n: usize, c: usize, p: &mut Pattern)
     requires { (n ≡ variable_count pattern.now) × (c ≤ most_conditions)
-        × (header_bytes + n + condition_bytes * c ≤ length pattern.now) × (p ≡ pattern_up_to pattern.now n 0) }
-    ensures { result ≡ pattern_up_to pattern.now n c }
+        × (header_bytes + n + condition_bytes * c ≤ length pattern.now) × (p.old ≡ pattern_up_to pattern.now n 0) }
+    ensures { p.new ≡ pattern_up_to pattern.now n c }
 {
-    let mut q = p;
-    let mut i = 0;
-    while i < c {
-        let k = unpack_condition(numbers::number8(pattern, HEADER_BYTES + n + CONDITION_BYTES * i));
-        q = with_condition(q, i, k);
-        i += 1;
+    for i in 0..c {
+        set_condition(p, i, unpack_condition(condition_word(pattern, n, i)));
     }
-    q
+}
+
+// The checked pattern, or refusals 1 to 4.
+pub fn read(pattern: &[u8]) -> Result<Pattern, Refusal>
+    ensures { checked_of result ≡ pattern_answer pattern.now }
+{
+    if pattern.len() < HEADER_BYTES {
+        return Err(Refusal::PatternLength);
+    }
+    if is_header_broken(pattern) {
+        return Err(Refusal::Header);
+    }
+    let n = count_variables(pattern);
+    let c = count_conditions(pattern);
+    if pattern.len() != HEADER_BYTES + n + CONDITION_BYTES * c {
+        return Err(Refusal::PatternLength);
+    }
+    check_variables(pattern, n)?;
+    check_conditions(pattern, n, c)?;
+    let mut p = with_counts(pattern);
+    set_variables(pattern, n, &mut p);
+    set_conditions(pattern, n, c, &mut p);
+    Ok(p)
+}
+
+// Rule 2.4: what the check of a pattern answers.
+impl From<Result<Pattern, Refusal>> for Checked {
+    ghost use Rattle.std.specs.Prelude.{◌≡◌};
+    ghost use Rattle.patterns.specs.Checked.{checked_of};
+
+    ghost from_gives = { λ read checked. checked ≡ checked_of read };
+
+    fn from(read: Result<Pattern, Refusal>) -> Checked {
+        match read {
+            Ok(pattern) => Checked {
+                code: 0,
+                place: 0,
+                pattern,
+            },
+            Err(refusal) => Checked {
+                code: refusal.code(),
+                place: refusal.place(),
+                pattern: blank_pattern(),
+            },
+        }
+    }
 }
 
 // Refusals 1 to 4 with a blank pattern, or the checked pattern.
 pub fn check_pattern(pattern: &[u8]) -> Checked
     ensures { result ≡ pattern_answer pattern.now }
 {
-    if pattern.len() < HEADER_BYTES {
-        return refusal(1, 0);
-    }
-    if is_header_broken(pattern) {
-        return refusal(2, 0);
-    }
-    let n = count_variables(pattern);
-    let c = count_conditions(pattern);
-    if pattern.len() != HEADER_BYTES + n + CONDITION_BYTES * c {
-        return refusal(1, 0);
-    }
-    let v = first_bad_variable(pattern, n);
-    if v < n {
-        return refusal(3, v as u32);
-    }
-    let i = first_bad_condition(pattern, n, c);
-    if i < c {
-        return refusal(4, i as u32);
-    }
-    let p = with_variables(pattern, n, with_counts(pattern));
-    Checked {
-        code: 0,
-        place: 0,
-        pattern: with_conditions(pattern, n, c, p),
-    }
+    Checked::from(read(pattern))
 }
 
 // ## When a condition holds
@@ -425,6 +443,7 @@ fn raised_signed(word: u32) -> u64
 }
 
 // The class of an event type, raised.
+#[tactic(auto, unfolding(crate::specs::Comparison::raise))]
 pub fn raised_class(event_type: u8) -> u64
     ensures { result ≡ raise (pos (class_of event_type)) }
 {
@@ -432,39 +451,34 @@ pub fn raised_class(event_type: u8) -> u64
 }
 
 // An attribute of record i, raised: the one field that it comes from is fetched, and nothing else of the record.
+#[tactic(auto, unfolding(crate::specs::Comparison::value, crate::specs::Comparison::raise))]
 pub fn raised_value(attribute: u8, block: &[u8], i: usize) -> u64
     requires { record_bytes * i + record_bytes ≤ length block.now }
     ensures { result ≡ raise (value attribute (record_at block.now i)) }
 {
-    if attribute == 0 {
-        return records::core_at(block, i) as u64 + RAISE;
+    match attribute {
+        CORE => records::core_at(block, i) as u64 + RAISE,
+        TYPE => records::type_at(block, i) as u64 + RAISE,
+        CLASS => raised_class(records::type_at(block, i)),
+        SLOT => records::slot_at(block, i) as u64 + RAISE,
+        AMOUNT => raised_signed(records::amount_at(block, i)),
+        _ => records::wave_at(block, i) as u64 + RAISE,
     }
-    if attribute == 1 {
-        return records::type_at(block, i) as u64 + RAISE;
-    }
-    if attribute == 2 {
-        return raised_class(records::type_at(block, i));
-    }
-    if attribute == 3 {
-        return records::slot_at(block, i) as u64 + RAISE;
-    }
-    if attribute == 4 {
-        return raised_signed(records::amount_at(block, i));
-    }
-    records::wave_at(block, i) as u64 + RAISE
 }
 
 // A condition's constant, raised: it has a sign where the attribute is amount (Rule 3.1).
+#[tactic(auto, unfolding(crate::specs::Comparison::constant_value, crate::specs::Comparison::raise))]
 pub fn raised_constant(attribute: u8, constant: u32) -> u64
     ensures { result ≡ raise (constant_value attribute constant) }
 {
-    if attribute == 4 {
-        return raised_signed(constant);
+    if attribute == AMOUNT {
+        raised_signed(constant)
+    } else {
+        constant as u64 + RAISE
     }
-    constant as u64 + RAISE
 }
 
-// What a comparison gives: 0 less, 1 equal, 2 greater.
+// What a comparison gives: 0 less, 1 equal, 2 greater: a number, as `order_of` says, which `order_meets` looks up.
 pub fn order(x: u64, y: u64) -> usize
     ensures { result ≡ order_of (pos x) (pos y) }
 {

@@ -1,4 +1,3 @@
 pub mod States
 pub mod Plans
-pub mod Masks
 pub mod Own

@@ -1,14 +1,8 @@
 -- What stands at each place of a plan, and that the plan of a pattern in order can be followed. Assumes nothing.
-use mathlib.Core.Path.{◌≡◌, ◌∙◌, refl, sym, ap, ap₂, subst}
-use mathlib.Core.Bool.{true, not}
-use mathlib.Core.List.{List}
-use Prim.Native.Nat.{ℕ, ◌+◌, ◌-◌, ◌*◌, ◌/◌, ◌%◌, ◌^◌, ◌≤◌, ◌<◌}
-use native.Mathlib.Nat.{le_refl, lt_of_lt_of_le, not-suc-le-zero}
-use native.Mathlib.Omega.{arith}
+use Rattle.std.proofs.Common.{◌≡◌, ◌∙◌, refl, sym, ap, ap₂, subst, true, not, List, ℕ, ◌+◌, ◌-◌, ◌*◌, ◌/◌, ◌%◌, ◌^◌}
+use Rattle.std.proofs.Common.{◌≤◌, ◌<◌, le_refl, lt_of_lt_of_le, arith, eqb, ltb, length, get_or, pow_mono}
 use borrow.Author.Tests.{lt-ltb, le-ltb, ltb-true, eqb-false, not-true}
-use lib.Dec.{eqb, ltb}
-use lib.ListN.{length, get_or, set}
-use lib.Pow.{pow_mono}
+use Rattle.std.proofs.lemmas.Grind.{same_number_lists}
 use Rattle.numbers.specs.Numbers.{field, every, one_if}
 use Rattle.numbers.specs.Bits.{bit}
 use Rattle.numbers.proofs.Cases.{by_order, both}
@@ -19,12 +13,12 @@ use Rattle.patterns.specs.declared.Pattern.{Pattern}
 use Rattle.patterns.specs.Patterns.{most_variables, most_conditions, last_attribute, last_operator, condition_of}
 use Rattle.patterns.specs.Comparison.{orders, meets}
 use Rattle.patterns.specs.Checked.{condition_at, InOrder}
-use Rattle.patterns.proofs.Filled.{filled_at, filled_more, filled-length}
+use Rattle.patterns.proofs.Filled.{filled_at, filled-length}
 use Rattle.plans.specs.Plan.{plan_room, first_mask, first_joins, first_class, others_place, type_places, mask_place}
 use Rattle.plans.specs.Plan.{failing_of, first_order, word_of, no_condition, joins, is_join, is_other, variable_mask}
 use Rattle.plans.specs.Plan.{join_mask, class_holds, class_mask, other_mask, place_of, plan_up_to, plan_of, condition_in}
 use Rattle.plans.specs.Plan.{before_in, after_in, marks_in, joins_in, class_in, others_in, both_sides, Tells, Placed}
-use Rattle.plans.specs.Plan.{IsPlan, Sound, Classed}
+use Rattle.plans.specs.Plan.{IsWord, IsPlan, Sound, Classed}
 
 -- ## Conditions
 
@@ -94,7 +88,7 @@ none-tells =
     }
 
 module _ (k : Condition) (p : Packs k) where
-  pub word_back : condition_of (word_of k) ≡ k
+  word_back : condition_of (word_of k) ≡ k
   unfolding word_of
   word_back =
       let f = failing-bound k.operator in
@@ -107,7 +101,7 @@ module _ (k : Condition) (p : Packs k) where
       (omega arith)
       (omega arith)
 
-  pub word-tells : Tells (word_of k)
+  word-tells : Tells (word_of k)
   unfolding word_of
   word-tells =
       let high = ((((k.variable * 8 + k.attribute) * 8 + k.operator) * 2 + k.form) * 16 + k.variable2) * 8 + k.attribute2 in
@@ -119,6 +113,9 @@ module _ (k : Condition) (p : Packs k) where
             ∙ failing-digit k.operator o l
             ∙ ap (λ (j : Condition). one_if (not (meets j.operator o))) (sym word_back);
       }
+
+  pub word-is : (word : ℕ) → word ≡ word_of k → IsWord k word
+  word-is word e = record { packed = e; back = ap condition_of e ∙ word_back; tells = subst Tells (sym e) word-tells }
 
 pub condition-variable : (word : ℕ) → (condition_of word).variable < 16
 unfolding condition_of
@@ -140,10 +137,13 @@ module _ (p : Pattern) where
   place_none i h l = rw (lt-ltb i first_mask h, le-ltb i p.c l, place_of)
 
   pub place-mask :
-      (place : ℕ) → first_mask ≤ place → place < first_joins
-      → place_of p place ≡ variable_mask p ((place - first_mask) / most_variables) ((place - first_mask) % most_variables)
+      (which v place : ℕ) → which < 3 → v < most_variables → place ≡ mask_place which v
+      → place_of p place ≡ variable_mask p which v
   unfolding place_of
-  place-mask place h l = rw (le-ltb place first_mask h, lt-ltb place first_joins l, place_of)
+  place-mask which v place h l e =
+      let a : (place - first_mask) / most_variables ≡ which = omega arith in
+      let b : (place - first_mask) % most_variables ≡ v = omega arith in
+      rw (le-ltb place first_mask (omega arith), lt-ltb place first_joins (omega arith), place_of) (ap₂ (variable_mask p) a b)
 
   pub place-joins :
       (place : ℕ) → first_joins ≤ place → place < first_class → place_of p place ≡ join_mask p (place - first_joins)
@@ -171,25 +171,9 @@ module _ (p : Pattern) where
   unfolding plan_of plan_up_to
   plan-length = filled-length plan_room 0 (place_of p) plan_room (le_refl plan_room)
 
-  -- a turn of the loop that fills the plan
-  pub plan-more :
-      (plan : List ℕ) (place number : ℕ) → place < plan_room → plan ≡ plan_up_to p place → number ≡ place_of p place
-      → set plan place number ≡ plan_up_to p (place + 1)
-  unfolding plan_up_to
-  plan-more plan place number h e f =
-      ap₂ (λ (l : List ℕ) (x : ℕ). set l place x) e f ∙ filled_more plan_room 0 (place_of p) place h
-
-  pub upto-length : (place : ℕ) → place ≤ plan_room → length (plan_up_to p place) ≡ plan_room
-  unfolding plan_up_to
-  upto-length place h = filled-length plan_room 0 (place_of p) place h
-
   mask_at :
       (which v : ℕ) → which < 3 → v < most_variables → get_or (plan_of p) (mask_place which v) 0 ≡ variable_mask p which v
-  mask_at which v h l =
-      let a : (mask_place which v - first_mask) / most_variables ≡ which = omega arith in
-      let b : (mask_place which v - first_mask) % most_variables ≡ v = omega arith in
-      plan-place (mask_place which v) (omega arith) ∙ place-mask (mask_place which v) (omega arith) (omega arith)
-      ∙ ap₂ (variable_mask p) a b
+  mask_at which v h l = plan-place (mask_place which v) (omega arith) ∙ place-mask which v (mask_place which v) h l refl
 
   joins_at : (v : ℕ) → v < most_variables → get_or (plan_of p) (first_joins + v) 0 ≡ join_mask p v
   joins_at v l =
@@ -207,42 +191,19 @@ module _ (p : Pattern) where
       let a : (others_place + kind) - others_place ≡ kind = omega arith in
       plan-place (others_place + kind) (omega arith) ∙ place-others (others_place + kind) (omega arith) ∙ ap (other_mask (condition_at p) p.c) a
 
--- the first places give the conditions back, and tell the orders that fail them
-pub record Backs (p : Pattern) (count : ℕ) : Type 0 where
-  pub one : (i : ℕ) → i < count → i < p.c → condition_of (place_of p i) ≡ condition_at p i
-  pub tells : (i : ℕ) → i < count → i < first_mask → Tells (place_of p i)
+module _ (p : Pattern) (few : p.c ≤ most_conditions) where
+  -- what stands behind the conditions gives none back
+  pub placed-behind : (place number : ℕ) → first_mask ≤ place → number ≡ place_of p place → Placed p place number
+  placed-behind place number h e = record { is = e; back = λ l. absurd (omega arith); tells = λ l. absurd (omega arith) }
 
-module _ (p : Pattern) where
-  pub backs-none : Backs p 0
-  backs-none = record { one = λ i h. absurd (not-suc-le-zero h); tells = λ i h. absurd (not-suc-le-zero h) }
-
-  pub backs-more : (count number : ℕ) → Backs p count → Placed p count number → Backs p (count + 1)
-  backs-more count number b placed =
-      record {
-        one = λ i h l.
-            by_order i count (λ m. b.one i m l)
-            (λ m.
-            let e : i ≡ count = omega arith in
-            let small : count < p.c = omega arith in
-            ap (λ (j : ℕ). condition_of (place_of p j)) e ∙ ap condition_of (sym placed.is) ∙ placed.back small ∙ ap (condition_at p) (sym e));
-        tells = λ i h l.
-            by_order i count (λ m. b.tells i m l)
-            (λ m.
-            let e : count ≡ i = omega arith in
-            let small : count < first_mask = omega arith in
-            subst (λ (j : ℕ). Tells (place_of p j)) e (subst Tells placed.is (placed.tells small)));
-      }
-
+  -- each number at its place
   pub plan-made :
-      (plan : List ℕ) → p.c ≤ most_conditions → plan ≡ plan_up_to p plan_room → Backs p plan_room → IsPlan p plan
-  unfolding plan_of
-  plan-made plan few e b =
+      (plan : List ℕ) → length plan ≡ plan_room → ((i : ℕ) → i < plan_room → Placed p i (get_or plan i 0)) → IsPlan p plan
+  plan-made plan size placed =
       record {
-        made = e;
-        condition = λ i l.
-            ap (λ (q : List ℕ). condition_in q i) e ∙ ap condition_of (plan-place p i (omega arith)) ∙ b.one i (omega arith) l;
-        tells = λ i l.
-            subst Tells (sym (ap (λ (q : List ℕ). get_or q i 0) e ∙ plan-place p i (omega arith))) (b.tells i (omega arith) l);
+        made = same_number_lists plan (plan_of p) (size ∙ sym (plan-length p)) (λ i l. let h : i < plan_room = omega arith in (placed i h).is ∙ sym (plan-place p i h));
+        condition = λ i l. (placed i (omega arith)).back l;
+        tells = λ i l. (placed i (omega arith)).tells l;
       }
 
 -- ## The plan of a pattern

@@ -1,11 +1,9 @@
 -- The masks of a plan against the number of a state: v leaves the state, and the order mark stands, exactly where the
 -- automaton says so. Assumes nothing.
-use mathlib.Core.Path.{◌≡◌, ◌∙◌, refl, sym, ap, ap₂}
-use mathlib.Core.Bool.{Bool, true, false, not, ◌&&◌, ◌||◌, true≢false, or-false}
-use Prim.Native.Nat.{ℕ, ◌≤◌, ◌<◌}
-use native.Mathlib.Omega.{arith}
+use Rattle.std.proofs.Common.{◌≡◌, ◌∙◌, refl, sym, ap, ap₂, Bool, true, false, not, ◌&&◌, ◌||◌, true≢false, ℕ, ◌≤◌}
+use Rattle.std.proofs.Common.{◌<◌, arith, eqb, ltb, leb}
+use mathlib.Core.Bool.{or-false}
 use borrow.Author.Tests.{lt-ltb, lt-leb, eq-eqb, ltb-true, leb-false, not-true}
-use lib.Dec.{eqb, ltb, leb}
 use Rattle.numbers.specs.Bits.{bit, mask, within, disjoint}
 use Rattle.numbers.specs.Numbers.{every}
 use Rattle.numbers.proofs.Cases.{by-test, neither, not-not, both, same_test}

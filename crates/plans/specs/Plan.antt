@@ -12,6 +12,8 @@ use Rattle.patterns.specs.Patterns.{most_variables, most_conditions, last_attrib
 use Rattle.patterns.specs.Checked.{filled, condition_at, set_of, is_group}
 use Rattle.patterns.specs.Comparison.{orders, meets, holds}
 use Rattle.automaton.specs.Filtering.{implies}
+use Rattle.plans.specs.declared.Mask.{Mask}
+use Rattle.plans.specs.declared.Mask.TheVariants.{Before, After, Marks}
 
 -- ## The conditions
 
@@ -77,6 +79,12 @@ standing which own set same group =
       | true ↦ ltb set own
       | false ↦ elim (eqb which 1) [ true ↦ ltb own set || (same && not group) | false ↦ leb own 1 || eqb set own ]
     ]
+
+-- the masks by their numbers
+abbrev pub mask_number : Mask → ℕ
+mask_number Before = 0
+mask_number After = 1
+mask_number Marks = 2
 
 abbrev pub stands : Pattern → ℕ → ℕ → ℕ → Bool
 stands p which v u = standing which (set_of p v) (set_of p u) (eqb u v) (is_group p v)

@@ -1,4 +1,5 @@
 pub mod MaskInTurn
 pub mod Masks
+pub mod Ones
 pub mod Readings
 pub mod Growing

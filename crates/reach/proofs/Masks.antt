@@ -1,20 +1,20 @@
 -- The variables that fire, in parts: what each record's own conditions allow, settled once a call; of it the variables
 -- that leave the state; of these the ones that agree with what is bound. Assumes nothing.
-use mathlib.Core.Path.{◌≡◌, refl, sym, ap, ap₂, subst, ◌∙◌}
-use mathlib.Core.Bool.{Bool, true, not, ◌&&◌, and-true, and_assoc}
+use mathlib.Core.Path.{◌≡◌, refl, sym, ap, ap₂, ◌∙◌}
+use mathlib.Core.Bool.{Bool, true, false, not, ◌&&◌, and-true, and_assoc}
 use mathlib.Core.List.{List, []}
 use mathlib.Core.Logic.{⊎_elim}
 use Prim.Native.Nat.{ℕ, ◌+◌, ◌-◌, ◌*◌, ◌/◌, ◌%◌, ◌^◌, ◌≤◌, ◌<◌}
 use native.Mathlib.Nat.{eq-or-lt_of_le, lt_of_le_of_lt, lt_of_lt_of_le}
 use native.Mathlib.Omega.{arith}
 use lib.Bits.{bit_and, and_le_l}
+use borrow.Author.Tests.{eqb-true}
 use lib.Dec.{eqb}
-use lib.ListN.{length, get_or, set}
+use lib.ListN.{get_or}
 use lib.Pow.{pow_mono}
-use lib.Seq.{get_or-set_same, get_or-set_other}
 use Rattle.numbers.specs.Numbers.{one_if, every}
 use Rattle.numbers.specs.Bits.{bit, mask, disjoint, IsLowestBit}
-use Rattle.numbers.proofs.Cases.{by_order}
+use Rattle.numbers.proofs.Cases.{by-test, by_order}
 use Rattle.numbers.proofs.Every.{every_of}
 use Rattle.numbers.proofs.Bits.{bit_high, bit-zero, bit-and, bit-without, bits-same, mask_bound, mask-inside}
 use Rattle.numbers.proofs.Bits.{mask-nothing, mask-same, mask-without, weight-in, weight-in-le}
@@ -68,6 +68,17 @@ module _ (plan bytes : List ℕ) (i : ℕ) (h : Held) where
       (λ u l.
       sym (and_assoc (not (eqb v u)) (bit rest u) (agrees_by plan bytes i u h))
       ∙ ap (λ (t : Bool). t && agrees_by plan bytes i u h) (sym (bit-without rest most_variables v u small))))
+
+-- one variable more of a mask is tested, in vain
+pub tested-more :
+    (test : ℕ → Bool) (asked rest n w : ℕ) → rest < 2 ^ n
+    → ((v : ℕ) → bit asked v ≡ true → bit rest v ≡ false → test v ≡ false)
+    → test w ≡ false → (v : ℕ) → bit asked v ≡ true → bit (rest - one_if (bit rest w) * 2 ^ w) v ≡ false
+    → test v ≡ false
+tested-more test asked rest n w small known none v e out =
+    by-test (eqb w v)
+    (λ t. ap test (sym (eqb-true w v t)) ∙ none)
+    (λ t. known v e (ap (λ (b : Bool). not b && bit rest v) (sym t) ∙ sym (bit-without rest n w v small) ∙ out))
 
 -- ## The parts together
 
@@ -138,18 +149,6 @@ module _ (plan bytes : List ℕ) (n c i : ℕ) where
       fires v = bit can v && (leaves_by plan state v && agrees_by plan bytes i v (record { state = state; bindings = [] }))
 
 -- ## Once a call
-
--- one record more is settled
-pub cans-more :
-    (plan bytes : List ℕ) (n c i : ℕ) (cans : List ℕ) (x : ℕ) → i < length cans
-    → x ≡ can_by plan n c bytes i
-    → ((k : ℕ) → k < i → get_or cans k 0 ≡ can_by plan n c bytes k)
-    → (k : ℕ) → k < i + 1 → get_or (set cans i x) k 0 ≡ can_by plan n c bytes k
-cans-more plan bytes n c i cans x l e each k m =
-    ⊎_elim
-    (λ z. subst (λ (q : ℕ). get_or (set cans i x) q 0 ≡ can_by plan n c bytes q) (sym z) (get_or-set_same cans i x 0 l ∙ e))
-    (λ z. get_or-set_other cans i k x 0 (λ q. omega arith) ∙ each k z)
-    (eq-or-lt_of_le {n = k} {m = i} (omega arith))
 
 module _ (plan bytes : List ℕ) (n c : ℕ) (few : n ≤ most_variables) (cans : List ℕ) (settled : Cans plan bytes n c cans)
     (i : ℕ) (inside : i < record_count bytes) where

@@ -110,8 +110,8 @@ module _ (n j : ℕ) (slot : List ℕ) (r : Reads n j slot) (few : n ≤ most_va
     abbrev reading : Reading
     reading = (held_in slot).bindings
 
-    read_below : ReadBelow p i reading
-    read_below =
+    read-so_far : ReadBelow p i reading
+    read-so_far =
         record {
           variable = λ b m. let v = r.variable b m in omega (arith, o.variables);
           below = λ b m. let v = r.below b m in omega arith;
@@ -119,7 +119,7 @@ module _ (n j : ℕ) (slot : List ℕ) (r : Reads n j slot) (few : n ≤ most_va
         }
 
     pub firing-is : firing_by plan bytes n c i (held_in slot) ≡ mask (λ v. fires p (records_of bytes) reading v i) p.n
-    firing-is = ap (firing_by plan bytes n c i) r.held ∙ holding-firing p plan bytes n c o i h reading read_below
+    firing-is = ap (firing_by plan bytes n c i) r.held ∙ holding-firing p plan bytes n c o i h reading read-so_far
 
     pub none-firing : firing_by plan bytes n c i (held_in slot) ≡ 0 → any_fires p (records_of bytes) reading i ≡ false
     none-firing z =
@@ -138,6 +138,17 @@ module _ (n j : ℕ) (slot : List ℕ) (r : Reads n j slot) (few : n ≤ most_va
         ∙ mask-same (λ v. fires p (records_of bytes) reading v i) (λ v. false) p.n (λ v l. fires-none p (records_of bytes) reading i e v)
         ∙ mask-empty p.n in
         absurd (omega arith))
+
+-- the slot's reading, as a reading of the pattern
+pub read_below :
+    (p : Pattern) (plan bytes : List ℕ) (n c : ℕ) → Of p plan bytes n c → (j : ℕ) (slot : List ℕ) → Reads n j slot
+    → ReadBelow p j (held_in slot).bindings
+read_below p plan bytes n c o j slot r =
+    record {
+      variable = λ b m. let v = r.variable b m in omega (arith, o.variables);
+      below = r.below;
+      latest = r.latest;
+    }
 
 -- what a call of `fires` asks for
 pub fit :

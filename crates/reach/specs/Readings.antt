@@ -1,6 +1,6 @@
 -- What a pass from one start hands on: readings in slots, what each record's own conditions allow, and the next record
 -- that fires. No promise of a public call names this file.
-use Rattle.std.specs.Prelude.{◌≡◌, ◌&&◌, ℕ, suc, ◌≤◌, ◌<◌, length, get_or}
+use Rattle.std.specs.Prelude.{◌≡◌, true, false, ◌&&◌, ℕ, suc, ◌≤◌, ◌<◌, length, get_or}
 use mathlib.Core.List.{List, Memᴰ}
 use Rattle.std.specs.Int.Bits.{bit_and}
 use Rattle.numbers.specs.Bits.{bit, mask}
@@ -9,11 +9,11 @@ use Rattle.records.specs.Blocks.{most_records}
 use Rattle.patterns.specs.declared.Pattern.{Pattern}
 use Rattle.patterns.specs.Patterns.{most_variables, most_conditions}
 use Rattle.patterns.specs.Checked.{InOrder}
-use Rattle.rule.specs.Rule.{Binding, TimesNeverFall, last_of}
+use Rattle.rule.specs.Rule.{Binding, Reading, TimesNeverFall, last_of}
 use Rattle.rule.specs.Promises.{most_bindings}
 use Rattle.slots.specs.Slots.{Held, slot_bytes, count_in, held_in, holding}
 use Rattle.plans.specs.Plan.{IsPlan, Sound, Classed}
-use Rattle.firing.specs.Firing.{can_by, leaves_by, agrees_by, fires_by}
+use Rattle.firing.specs.Firing.{can_by, leaves_by, joins_by, agrees_by, fires_by}
 use Rattle.reach.specs.declared.Start.{Start}
 use Rattle.reach.specs.declared.Fire.{Fire}
 
@@ -27,6 +27,10 @@ leaving_by plan n state = mask (leaves_by plan state) n
 
 unfoldable pub agreeing_by : List ℕ → List ℕ → ℕ → ℕ → Held → ℕ
 agreeing_by plan bytes i asked h = mask (λ v. bit asked v && agrees_by plan bytes i v h) most_variables
+
+-- no variable of a mask joins a reading at record i
+pub record NoneJoins (plan bytes : List ℕ) (i asked : ℕ) (r : Reading) : Type 0 where
+  pub each : (v : ℕ) → bit asked v ≡ true → joins_by plan bytes i v r ≡ false
 
 -- for each record the variables whose own conditions hold of it
 pub record Cans (plan bytes : List ℕ) (n c : ℕ) (cans : List ℕ) : Type 0 where

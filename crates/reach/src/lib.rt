@@ -1,18 +1,19 @@
 // What a reading can still come to: the variables that fire for it, and the next record at which one does.
 #![tactic(auto)]
 
-ghost use Rattle.std.specs.Prelude.{◌≡◌, ℕ, ◌^◌, ◌<◌, ◌≤◌, length, get_or, replicate};
+ghost use Rattle.std.specs.Prelude.{◌≡◌, false, ℕ, ◌^◌, ◌<◌, ◌≤◌, length, get_or, replicate};
 ghost use Rattle.records.specs.Blocks.{most_records};
 ghost use Rattle.patterns.specs.Patterns.{most_variables};
 ghost use Rattle.slots.specs.Slots.{held_in};
-ghost use Rattle.plans.specs.Plan.{plan_room};
 ghost use Rattle.firing.specs.Firing.{Fit};
-ghost use Rattle.reach.specs.Readings.{leaving_by, agreeing_by, Cans, Usable, Ready, NextCan, NextBy};
+ghost use Rattle.reach.specs.Readings.{leaving_by, agreeing_by, NoneJoins, Cans, Usable, Ready, NextCan, NextBy};
+
+use plans::Plan;
 
 // What one start fixes: how many variables and conditions there are, and the duration; the record at which its readings
-// close, and their mark; a record before which none of them takes a binding too many, the number from which on counts
-// are not told, and where the count of branches stops.
-#[derive(Clone, Copy)]
+// close, and their mark by its number; a record before which none of them takes a binding too many, the number from
+// which on counts are not told, and where the count of branches stops.
+#[derive(Clone, Copy, Debug, PartialEq, Eq)]
 pub struct Start {
     pub n: usize,
     pub c: usize,
@@ -25,7 +26,7 @@ pub struct Start {
 }
 
 // A record that fires, and the variables that fire there.
-#[derive(Clone, Copy)]
+#[derive(Clone, Copy, Debug, PartialEq, Eq)]
 pub struct Fire {
     pub at: usize,
     pub variables: u64,
@@ -33,7 +34,7 @@ pub struct Fire {
 
 // ## Which variables fire
 
-// For each record no variable.
+// For each record no variable. Its clause says what each is, which the type of the array does not.
 pub fn no_cans() -> [u16; records::MOST_RECORDS]
     ensures { result ≡ replicate most_records 0 }
 {
@@ -42,81 +43,89 @@ pub fn no_cans() -> [u16; records::MOST_RECORDS]
 
 // For each record the variables that can fire there by its own conditions, settled once a call and not once a reading.
 pub fn all_can(
-    plan: &[u64; plans::PLAN_ROOM],
+    plan: &Plan,
     n: usize,
     c: usize,
     block: &[u8],
     cans: &mut [u16; records::MOST_RECORDS],
 )
-    requires { (Usable plan.now block.now n c) × (length cans.old ≡ most_records) }
+    requires { Usable plan.now block.now n c }
     ensures { Cans plan.now block.now n c cans.new }
 {
-    let count = block.len() / records::RECORD_BYTES;
-    let mut i = 0;
-    while i < count {
+    for i in 0..block.len() / records::RECORD_BYTES {
         cans[i] = firing::can_fire(plan, n, c, block, i) as u16;
-        i += 1;
     }
 }
 
 // The variables that leave a state.
-pub fn leaving(plan: &[u64; plans::PLAN_ROOM], n: usize, state: u64) -> u64
-    requires { (length plan.now ≡ plan_room) × (n ≤ most_variables) }
+#[tactic(auto, unfolding(crate::specs::Readings::leaving_by))]
+pub fn leaving(plan: &Plan, n: usize, state: u64) -> u64
+    requires { n ≤ most_variables }
     ensures { result ≡ leaving_by plan.now n state }
 {
-    let mut leave = 0;
-    let mut v = 0;
-    while v < n {
-        leave = leave + numbers::weight_if(firing::leaves(plan, state, v), v);
-        v += 1;
-    }
-    leave
+    numbers::mask(n, |v| firing::leaves(plan, state, v))
 }
 
 // Of the variables asked, which can fire at record i and leave the reading's state, those that fire.
-fn firing_of(block: &[u8], plan: &[u64; plans::PLAN_ROOM], i: usize, asked: u64, slot: &[u8]) -> u64
+fn firing_of(block: &[u8], plan: &Plan, i: usize, asked: u64, slot: &[u8]) -> u64
     requires { (asked < 2 ^ most_variables) × Fit plan.now block.now i slot.now }
     ensures { result ≡ agreeing_by plan.now block.now i asked (held_in slot.now) }
 {
     let mut firing = 0;
     let mut rest = asked;
+    // by the bits that are set, which are few: not by each of the variables
     while rest != 0 {
         let v = numbers::lowest_bit(rest);
+        // joins first, as `firing::agrees` does not
+        let agrees = firing::joins_hold(plan, block, i, v, slot)
+            && firing::is_later(plan, block, i, v, slot);
+        firing += numbers::weight_if(agrees, v);
         rest = numbers::without_bit(rest, v);
-        if !firing::joins_hold(plan, block, i, v, slot) {
-            continue;
-        }
-        firing = firing + numbers::weight_if(firing::is_later(plan, block, i, v, slot), v);
     }
     firing
 }
 
-// The next record at which one of the variables can fire by its own conditions, or the end.
+// Whether some of the variables asked agree at record i with what the slot's reading binds: a loop over the bits of a
+// mask.
+pub fn any_joins(block: &[u8], plan: &Plan, i: usize, asked: u64, slot: &[u8]) -> bool
+    requires { (asked < 2 ^ most_variables) × Fit plan.now block.now i slot.now }
+    ensures { result ≡ false → NoneJoins plan.now block.now i asked (held_in slot.now).bindings }
+{
+    let mut left = asked;
+    while left != 0 {
+        let v = numbers::lowest_bit(left);
+        if firing::joins_hold(plan, block, i, v, slot) {
+            return true;
+        }
+        left = numbers::without_bit(left, v);
+    }
+    false
+}
+
+// The next record at which one of the variables can fire by its own conditions, or the end, as `NextCan` says of it: no
+// Option.
 pub fn next_can(
     cans: &[u16; records::MOST_RECORDS],
     variables: u64,
     from: usize,
     end: usize,
 ) -> usize
-    requires { (from ≤ end) × (end ≤ most_records) × (length cans.now ≡ most_records)
-        × ((i : ℕ) → i < end → get_or cans.now i 0 < 2 ^ most_variables) }
+    requires { (from ≤ end) × (end ≤ most_records) }
     ensures { NextCan cans.now variables from end result }
 {
-    let mut i = from;
-    while i < end {
+    for i in from..end {
         if cans[i] as u64 & variables != 0 {
             return i;
         }
-        i += 1;
     }
-    i
+    end
 }
 
 // Skips to the next record from j on that fires; to the record at which the reading closes, where none does, and at
-// once where no variable leaves the reading's state.
+// once where no variable leaves the reading's state. `NextBy` speaks of a record in either case, so it is no Option.
 pub fn next_fire(
     block: &[u8],
-    plan: &[u64; plans::PLAN_ROOM],
+    plan: &Plan,
     cans: &[u16; records::MOST_RECORDS],
     s: Start,
     j: usize,

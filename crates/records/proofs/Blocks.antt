@@ -1,16 +1,10 @@
 -- What the check of a block answers, case by case; it accepts exactly the blocks in order. Assumes nothing.
-use mathlib.Core.Path.{◌≡◌, ◌∙◌, refl, sym, ap, ap₂, subst}
-use mathlib.Core.Bool.{true, false, ◌||◌, true≢false}
-use mathlib.Core.List.{List}
-use Prim.Native.Nat.{ℕ, zero, suc, ◌+◌, ◌-◌, ◌%◌, ◌≤◌, ◌<◌}
-use native.Mathlib.Omega.{arith}
-use borrow.Author.Tests.{lt-ltb, le-ltb, eq-eqb, ne_eqb, ltb-true, ltb-false, eqb-true, eqb-false}
-use lib.Dec.{eqb, ltb}
-use lib.ListN.{length}
+use Rattle.std.proofs.Common.{◌≡◌, ◌∙◌, refl, sym, ap, ap₂, subst, true, false, ◌||◌, true≢false, List, ℕ, zero, suc, ◌+◌, ◌-◌, ◌%◌, ◌≤◌, ◌<◌, arith, lt-ltb, le-ltb, eq-eqb, ne_eqb, ltb-true, ltb-false, eqb-true, eqb, length}
+use borrow.Author.Tests.{eqb-false}
 use Rattle.records.specs.declared.Answer.{Answer}
 use Rattle.records.specs.declared.Record.{Record}
 use Rattle.records.specs.Records.{record_bytes, record_at, event_kind, gap_kind, record_count}
-use Rattle.records.specs.Blocks.{most_records, refused, misfit, gap_broken, broken, misplaced, late}
+use Rattle.records.specs.Blocks.{most_records, refused, misfit, broken, misplaced, late}
 use Rattle.records.specs.Blocks.{record_refusal, bad, first_bad, block_answer, InOrder}
 use Rattle.numbers.proofs.Cases.{by-test, by_order, neither}
 use Rattle.numbers.proofs.First.{first-at, first-none, first-fails, first_passes}
@@ -23,10 +17,6 @@ module _ (r : Record) where
   pub broken-event : r.kind ≤ gap_kind → (r.kind ≡ gap_kind → ⊥) → broken r ≡ false
   unfolding broken
   broken-event l other = rw (le-ltb gap_kind r.kind l, ne_eqb r.kind gap_kind other)
-
-  pub broken-gap : r.kind ≡ gap_kind → broken r ≡ gap_broken r
-  unfolding broken
-  broken-gap e = rw (le-ltb gap_kind r.kind (omega arith), eq-eqb r.kind gap_kind e)
 
   event-of : broken r ≡ false → eqb r.kind gap_kind ≡ false → r.kind ≡ event_kind
   event-of sound other =
@@ -101,10 +91,6 @@ module _ (bytes : List ℕ) where
   pub misfit-odd : (length bytes % record_bytes ≡ 0 → ⊥) → misfit bytes ≡ true
   unfolding misfit
   misfit-odd h = rw (ne_eqb _ _ h)
-
-  pub misfit-whole : length bytes % record_bytes ≡ 0 → misfit bytes ≡ ltb most_records (record_count bytes)
-  unfolding misfit
-  misfit-whole h = rw (eq-eqb _ _ h)
 
   pub misfit-many : length bytes % record_bytes ≡ 0 → most_records < record_count bytes → misfit bytes ≡ true
   unfolding misfit

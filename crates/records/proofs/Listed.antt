@@ -1,10 +1,6 @@
 -- A block as a list of records: its length, and what stands at each number. Assumes nothing.
-use mathlib.Core.Path.{◌≡◌, ◌∙◌, refl, ap}
-use mathlib.Core.List.{List, [], ◌∷◌, map}
-use Prim.Native.Nat.{ℕ, zero, suc, ◌<◌}
-use native.Mathlib.Nat.{zero-add, not-suc-le-zero, le_of_suc-le-suc}
-use native.Mathlib.Omega.{arith}
-use lib.ListN.{length, get_or, length-map}
+use Rattle.std.proofs.Common.{◌≡◌, ◌∙◌, refl, ap, List, [], ◌∷◌, map, ℕ, zero, suc, ◌<◌, zero-add, not-suc-le-zero, le_of_suc-le-suc, arith, length, get_or}
+use lib.ListN.{length-map}
 use Rattle.numbers.specs.Numbers.{upto}
 use Rattle.numbers.proofs.Upto.{length-upto, get_or-upto}
 use Rattle.records.specs.declared.Record.{Record}

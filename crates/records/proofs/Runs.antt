@@ -1,16 +1,10 @@
 -- Events that go on from the record before are in order. Assumes nothing.
-use mathlib.Core.Path.{◌≡◌, ◌∙◌, sym, ap, subst}
-use mathlib.Core.Bool.{false, true≢false}
-use mathlib.Core.List.{List}
-use Prim.Native.Nat.{ℕ, ◌+◌, ◌-◌, ◌*◌, ◌^◌, ◌≤◌}
-use native.Mathlib.Omega.{arith}
-use borrow.Author.Tests.{leb-true}
-use lib.Dec.{leb}
+use Rattle.std.proofs.Common.{◌≡◌, ◌∙◌, sym, ap, subst, List, ℕ, ◌+◌, ◌-◌, ◌*◌, ◌^◌, ◌≤◌, arith}
 use Rattle.numbers.specs.Numbers.{number}
 use Rattle.numbers.proofs.Numbers.{number-5}
 use Rattle.records.specs.Records.{record_bytes, record_at, event_kind}
 use Rattle.records.specs.Blocks.{misplaced}
-use Rattle.records.specs.Runs.{high_byte, lower_bits, Ready, GoesOn}
+use Rattle.records.specs.Runs.{high_byte, lower_bits, Ready}
 use Rattle.records.proofs.Blocks.{broken-event, placed_by, late-at, refusal-none}
 
 module _ (bytes : List ℕ) (i : ℕ) where
@@ -48,23 +42,3 @@ pub ready-event :
 ready-event bytes i high low h l k =
     let e : low + 0 ≡ low = omega arith in
     subst (Ready bytes (i + 1) high) e (ready bytes i high low 0 h l (sym k))
-
-module _ (bytes : List ℕ) (i high : ℕ) where
-  pub not_on : GoesOn bytes i high false
-  not_on =
-      record {
-        event = λ t. absurd (true≢false (sym t));
-        good = λ t. absurd (true≢false (sym t));
-        same = λ t. absurd (true≢false (sym t));
-      }
-
-  pub on-if :
-      (least own : ℕ) → Ready bytes i high least → (record_at bytes i).kind ≡ event_kind → high_byte bytes i ≡ high
-      → own ≡ lower_bits bytes i
-      → GoesOn bytes i high (leb least own)
-  on-if least own known event same is =
-      record {
-        event = λ t. event;
-        good = λ t. let l = leb-true least own t in known.next event same (omega arith);
-        same = λ t. same;
-      }

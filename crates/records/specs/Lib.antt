@@ -1,3 +1,4 @@
 pub mod Records
 pub mod Blocks
 pub mod Runs
+pub mod Refusals

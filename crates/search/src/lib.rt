@@ -3,8 +3,9 @@
 
 ghost use Rattle.std.specs.Prelude.{◌≡◌, length, replicate};
 ghost use Rattle.index.specs.Promises.{SearchCall};
+ghost use Rattle.search.specs.Judged.{Judged};
 
-use records::Answer;
+use records::{Answer, Refusal};
 
 // Clears all lent memory, and gives the answer on.
 pub fn cleared(answer: Answer, work: &mut [u8], res: &mut [u8]) -> Answer
@@ -16,7 +17,34 @@ pub fn cleared(answer: Answer, work: &mut [u8], res: &mut [u8]) -> Answer
     answer
 }
 
-// The search (Rule 7.11). Only where the pattern cannot match the block is judged here: else the pass judges it.
+// Whether the pattern cannot match the block, whatever is in it, by the index. Only where it cannot, the block and the
+// limit are judged here: else the pass judges them.
+// It has a frame of its own, with the pattern, which does not stand while the pass is made.
+#[inline(never)]
+fn is_passed_over(
+    pattern: &[u8],
+    index: &[u8],
+    block: &[u8],
+    limit: u32,
+    lent: usize,
+) -> Result<bool, Refusal>
+    ensures { Judged pattern.now index.now block.now limit lent result }
+{
+    let p = patterns::read(pattern)?;
+    if index::is_broken(index) {
+        return Err(Refusal::Index);
+    }
+    if !index::cannot_match(p, index) {
+        return Ok(false);
+    }
+    records::judge(block)?;
+    if forward::is_limit_broken(limit, lent) {
+        return Err(Refusal::Limit);
+    }
+    Ok(true)
+}
+
+// The search (Rule 7.11).
 pub fn search(
     pattern: &[u8],
     index: &[u8],
@@ -28,20 +56,12 @@ pub fn search(
     ensures { SearchCall pattern.now index.now block.now limit
         (length work.old) (length res.old) result work.new res.new }
 {
-    let checked = patterns::check_pattern(pattern);
-    let first = index::first_refusal(checked.code, checked.place, index::is_broken(index));
-    if first.code != 0 {
-        return cleared(first, work, res);
+    match is_passed_over(pattern, index, block, limit, work.len()) {
+        Ok(true) => {
+            // nothing is reported
+            cleared(Answer::from(Ok(0)), work, res)
+        }
+        Ok(false) => forward::forward(pattern, block, limit, work, res),
+        Err(refusal) => cleared(Answer::from(refusal), work, res),
     }
-    if !index::cannot_match(checked.pattern, index) {
-        return forward::forward(pattern, block, limit, work, res);
-    }
-    let judged = records::check_block(block);
-    if judged.code != 0 {
-        return cleared(judged, work, res);
-    }
-    if forward::is_limit_broken(limit, work.len()) {
-        return cleared(records::refusal(8, 0), work, res);
-    }
-    cleared(records::refusal(0, 0), work, res)
 }

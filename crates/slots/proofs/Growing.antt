@@ -1,17 +1,17 @@
 -- A slot with one binding more, as `slots::bind` stores it, and the slot of zeros. Assumes nothing.
-use mathlib.Core.Path.{◌≡◌, ap, ◌∙◌}
-use mathlib.Core.List.{List, ◌∷◌}
-use Prim.Native.Nat.{ℕ, suc, ◌+◌, ◌*◌, ◌^◌, ◌/◌, ◌%◌, ◌<◌}
-use native.Mathlib.Numerals.{add-one}
-use native.Mathlib.Omega.{arith}
-use lib.Bits.{bit_or}
-use lib.ListN.{length, get_or, set, length-set}
-use lib.Seq.{get_or-set_same, get_or-set_other}
+use Rattle.std.proofs.Common.{arith, ◌≡◌, refl, sym, ap, ap₂, ◌∙◌, List, [], ◌∷◌, ℕ, ◌+◌, ◌-◌, ◌*◌, ◌^◌, ◌/◌, ◌%◌}
+use Rattle.std.proofs.Common.{◌≤◌, ◌<◌, length, get_or, bit_or, add-one, get_or-set_same, get_or-set_other, suc}
+use Rattle.std.specs.Int.{w16, to_be_bytes}
+use Rattle.std.proofs.Math.ListN.{set, length-set}
+use Rattle.std.proofs.lemmas.List.{take-append-drop}
+use borrow.Rule.Slice.PartMut.{put_mid}
 use Rattle.numbers.specs.Numbers.{number}
 use Rattle.numbers.proofs.Numbers.{number-2}
 use Rattle.records.specs.Blocks.{most_records}
 use Rattle.rule.specs.Promises.{most_bindings}
 use Rattle.slots.specs.Slots.{slot_bytes, binding_of, bindings_in, count_in, state_in, held_in, grow}
+use Rattle.patterns.specs.Patterns.{most_variables}
+use Rattle.slots.proofs.Results.{put_written, put-head}
 use Rattle.slots.proofs.Slots.{bindings_in-same}
 
 -- two bytes stored are a number
@@ -33,6 +33,11 @@ number-set-other l at x k f g =
 abbrev stored : List ℕ → ℕ → ℕ → ℕ → List ℕ
 stored slot count state word =
     set (set (set (set (set slot 1 (count + 1)) 2 (state / 256)) 3 (state % 256)) (4 + 2 * count) (word / 256)) (4 + 2 * count + 1) (word % 256)
+
+-- the same, with state and binding given back two bytes at a time
+abbrev pub put_back : List ℕ → ℕ → List ℕ → List ℕ → List ℕ
+put_back slot count first second =
+    put_mid (4 + 2 * count) (4 + 2 * count + 2 - (4 + 2 * count)) (put_mid 2 2 (set slot 1 (count + 1)) first) second
 
 module _ (slot : List ℕ) (count state word : ℕ) (size : length slot ≡ slot_bytes) (e : count ≡ count_in slot)
     (h : count < most_bindings) where
@@ -93,19 +98,47 @@ module _ (slot : List ℕ) (count state word : ℕ) (size : length slot ≡ slot
       ∙ ap (λ (k : ℕ). binding_of word ∷ bindings_in slot k) e in
       λ i. record { state = state-stored i; bindings = b i }
 
+-- two bytes lent and given back, as two bytes stored
+pair-put :
+    (l bytes : List ℕ) (at n x : ℕ) → at + 2 ≤ length l → n ≡ 2 → x < 65536 → bytes ≡ to_be_bytes w16 x
+    → put_mid at n l bytes ≡ set (set l at (x / 256)) (at + 1) (x % 256)
+pair-put l bytes at n x h two small e =
+    let pair : List ℕ = (x / 256) ∷ (x % 256) ∷ [] in
+    let high : x / 256 % 256 ≡ x / 256 = omega arith in
+    let is : bytes ≡ pair = e ∙ ap (λ (y : ℕ). y ∷ (x % 256) ∷ []) high in
+    let m : n ≡ at + 2 - at = omega arith in
+    let none : at + 2 + 0 ≡ at + 2 = omega arith in
+    ap₂ (λ (k : ℕ) (b : List ℕ). put_mid at k l b) m is
+    ∙ put_written at (at + 2) l pair refl
+    ∙ sym (put-head at (at + 2) (x / 256) (x % 256) l [] none h)
+    ∙ put-none (at + 2) (at + 2 - (at + 2)) (set (set l at (x / 256)) (at + 1) (x % 256)) (omega arith)
+  where
+    put-none : (k n : ℕ) (l : List ℕ) → n ≡ 0 → put_mid k n l [] ≡ l
+    put-none k n l e = ap (λ (m : ℕ). put_mid k m l []) e ∙ take-append-drop k l
+
 -- the slot as it is stored, with variable v bound to record i
 pub held_grown :
-    (slot : List ℕ) (i v count state : ℕ) → length slot ≡ slot_bytes → count ≡ count_in slot → count < most_bindings
+    (slot first second : List ℕ) (i v count state : ℕ) → length slot ≡ slot_bytes → count ≡ count_in slot → count < most_bindings
     → i < most_records
+    → v < most_variables
     → state ≡ bit_or (state_in slot) (2 ^ v)
-    → (held_in (stored slot count state (v * 4096 + i)) ≡ grow i v (held_in slot))
-    × (length (stored slot count state (v * 4096 + i)) ≡ slot_bytes)
-    × (count_in (stored slot count state (v * 4096 + i)) ≡ count_in slot + 1)
+    → state < 65536
+    → first ≡ to_be_bytes w16 state
+    → second ≡ to_be_bytes w16 (v * 4096 + i)
+    → (held_in (put_back slot count first second) ≡ grow i v (held_in slot))
+    × (length (put_back slot count first second) ≡ slot_bytes)
+    × (count_in (put_back slot count first second) ≡ count_in slot + 1)
 unfolding grow held_in
-held_grown slot i v count state size e h r s =
+held_grown slot first second i v count state size e h r small s fits p q =
     let word : ℕ = v * 4096 + i in
     let a : word / 2 ^ 12 ≡ v = omega arith in
-    let b : word % 2 ^ 12 ≡ i = omega arith in (
+    let b : word % 2 ^ 12 ≡ i = omega arith in
+    let one : List ℕ = set slot 1 (count + 1) in
+    let three : List ℕ = set (set one 2 (state / 256)) 3 (state % 256) in
+    let same : put_back slot count first second ≡ stored slot count state word =
+    ap (λ (l : List ℕ). put_mid (4 + 2 * count) (4 + 2 * count + 2 - (4 + 2 * count)) l second) (pair-put one first 2 2 state (simp length-set (omega arith)) refl fits p)
+    ∙ pair-put three second (4 + 2 * count) _ word (simp length-set (omega arith)) (omega arith) (omega arith) q in
+    rw same (
       held-stored slot count state word size e h
           ∙ (λ j. record { state = s j; bindings = record { variable = a j; at = b j } ∷ bindings_in slot (count_in slot) }),
       length-stored slot count state word size e h,

@@ -1,8 +1,5 @@
 -- A reading beside the number of its state: bits, bound, and growing by one binding. Assumes nothing.
-use mathlib.Core.Path.{◌≡◌, ap, ◌∙◌}
-use mathlib.Core.Bool.{◌&&◌}
-use mathlib.Core.List.{◌∷◌}
-use Prim.Native.Nat.{ℕ, ◌<◌}
+use Rattle.std.proofs.Common.{◌≡◌, ap, ◌∙◌, ◌&&◌, ◌∷◌, ℕ, ◌<◌}
 use borrow.Author.Tests.{lt-ltb}
 use Rattle.numbers.specs.Bits.{bit}
 use Rattle.numbers.proofs.Bits.{mask-bit, mask-or-weight}

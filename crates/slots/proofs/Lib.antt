@@ -1,4 +1,3 @@
-pub mod Copies
 pub mod Results
 pub mod Slots
 pub mod Lines

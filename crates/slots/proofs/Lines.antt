@@ -1,10 +1,7 @@
 -- A reported reading as `slots::put_line` writes it: two bytes stored, then the slot's own bytes. Assumes nothing.
-use mathlib.Core.Path.{◌≡◌, sym, ap, ◌∙◌}
-use mathlib.Core.List.{List, ◌∷◌}
-use Prim.Native.Nat.{ℕ, ◌+◌, ◌-◌, ◌*◌, ◌≤◌, ◌<◌}
-use native.Mathlib.Omega.{arith}
-use lib.ListN.{length, take, drop, get_or, set, length-set, length-take, length-drop}
-use borrow.Rule.Slice.PartMut.{put_mid, same_len_mid}
+use Rattle.std.proofs.Common.{◌≡◌, sym, ap, ◌∙◌, List, ◌∷◌, ℕ, ◌+◌, ◌-◌, ◌*◌, ◌≤◌, ◌<◌, arith, length, take, drop}
+use Rattle.std.proofs.Common.{get_or, set, length-take, length-drop}
+use borrow.Rule.Slice.PartMut.{put_mid}
 use Rattle.rule.specs.Promises.{most_bindings}
 use Rattle.slots.specs.Slots.{slot_bytes, count_in, held_in}
 use Rattle.numbers.specs.Numbers.{bytes_of, written}
@@ -27,9 +24,3 @@ line-put result slot part at mark count e m s c below room p =
     put-head at (at + 2 + 2 * count) (mark * 16) count result part (omega arith) (omega arith)
     ∙ (λ i. written result at ((mark * 16) ∷ e i ∷ q i))
     ∙ ap (λ (l : List ℕ). written result at l) (sym (line-bytes mark slot m c below (omega arith)))
-
-pub length-line-put :
-    (result part : List ℕ) (at x y n : ℕ)
-    → length part ≡ length (take n (drop (at + 2) (set (set result at x) (at + 1) y)))
-    → length (put_mid (at + 2) n (set (set result at x) (at + 1) y) part) ≡ length result
-length-line-put result part at x y n e = same_len_mid (at + 2) n (set (set result at x) (at + 1) y) part e ∙ simp length-set

@@ -1,12 +1,8 @@
 -- Bytes written over a memory, and numbers as bytes: two for each, from which the numbers come back. Assumes nothing.
-use mathlib.Core.Path.{◌≡◌, refl, sym, ap, ◌∙◌}
-use mathlib.Core.List.{List, [], ◌∷◌, ◌++◌, append_assoc}
-use Prim.Native.Nat.{ℕ, zero, suc, ◌+◌, ◌-◌, ◌*◌, ◌/◌, ◌%◌, ◌≤◌, ◌<◌}
-use native.Mathlib.Nat.{div-add-mod'}
-use native.Mathlib.Numerals.{add-one}
-use native.Mathlib.Omega.{arith}
-use lib.ListN.{length, take, drop, get_or, set, length-append, length-drop}
-use lib.Seq.{take_at, drop_at, drop-drop, take-take, length-take-le, take-suc-set, drop-set-lt}
+use Rattle.std.proofs.Common.{◌≡◌, refl, sym, ap, ◌∙◌, List, [], ◌∷◌, ◌++◌, append_assoc, ℕ, zero, suc, ◌+◌, ◌-◌, ◌*◌}
+use Rattle.std.proofs.Common.{◌/◌, ◌%◌, ◌≤◌, ◌<◌, div-add-mod', add-one, arith, length, take, drop, get_or, set}
+use Rattle.std.proofs.Common.{length-append, length-drop, take_at, drop_at, drop-drop, take-take, length-take-le}
+use Rattle.std.proofs.Common.{take-suc-set, drop-set-lt}
 use borrow.Rule.Slice.PartMut.{put_mid}
 use Rattle.numbers.specs.Numbers.{bytes_of, written}
 use Rattle.slots.specs.Results.{numbers_of}

@@ -1,12 +1,10 @@
 -- What slots hold: the bindings of a slot, and slots in a memory that is written elsewhere, stored to and skipped.
 -- Assumes nothing.
-use mathlib.Core.Path.{◌≡◌, refl, sym, ap, ◌∙◌}
-use mathlib.Core.List.{List, [], ◌∷◌, ◌++◌, append_assoc}
-use Prim.Native.Nat.{ℕ, zero, suc, ◌+◌, ◌-◌, ◌*◌, ◌^◌, ◌/◌, ◌%◌, ◌≤◌, ◌<◌}
-use native.Mathlib.Nat.{add-zero, add-suc}
-use native.Mathlib.Omega.{arith}
-use lib.ListN.{length, take, drop, get_or, length-append, length-drop, get_or-append}
-use lib.Seq.{take-take, drop-drop, take-nil, drop-append-le, get_or-drop, get_or_at, take-suc}
+use Rattle.std.proofs.Common.{◌≡◌, refl, sym, ap, ◌∙◌, List, [], ◌∷◌, ◌++◌, append_assoc, ℕ, zero, suc, ◌+◌, ◌-◌, ◌*◌}
+use Rattle.std.proofs.Common.{◌^◌, ◌/◌, ◌%◌, ◌≤◌, ◌<◌, add-zero, add-suc, arith, length, take, drop, get_or}
+use Rattle.std.proofs.Common.{length-append, length-drop, take-take, drop-drop, get_or-drop, take-suc}
+use lib.ListN.{get_or-append}
+use lib.Seq.{take-nil, drop-append-le, get_or_at}
 use Rattle.numbers.specs.Numbers.{number, written}
 use Rattle.numbers.proofs.Numbers.{number-2}
 use Rattle.numbers.proofs.Cases.{by_order}

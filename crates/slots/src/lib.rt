@@ -7,7 +7,7 @@ ghost use Rattle.records.specs.Blocks.{most_records};
 ghost use Rattle.patterns.specs.Patterns.{most_variables};
 ghost use Rattle.rule.specs.Promises.{most_bindings};
 ghost use Rattle.slots.specs.Slots.{slot_bytes, count_in, state_in, held_in, grow};
-ghost use Rattle.slots.specs.Results.{line_numbers};
+ghost use Rattle.slots.specs.Results.{mark_number, line_numbers};
 
 // The bytes of a slot.
 pub const SLOT_BYTES: usize = 80;
@@ -17,49 +17,43 @@ pub const MOST_BINDINGS: usize = 32;
 // The longest result slice of a C call, which the match program lends too.
 pub const MOST_RESULT_BYTES: usize = 65536;
 
-// The marks of a reading that closes.
-pub const PAST_MARK: u8 = 1;
+// The mark of a reading that closes, with its number in a report.
+#[derive(Clone, Copy, Debug, PartialEq, Eq)]
+pub enum Mark {
+    Past = 1,
+    End = 2,
+    // At a gap: a full reading could have taken an event that was lost, or could not.
+    Gap = 3,
+    GapComplete = 4,
+}
 
-pub const END_MARK: u8 = 2;
-
-// Of a gap: whether a full reading could have taken an event that was lost, or could not.
-pub const GAP_MARK: u8 = 3;
-
-pub const GAP_COMPLETE_MARK: u8 = 4;
+impl Mark {
+    pub fn number(self) -> u8
+        ensures { (result ≡ mark_number self) × (result < 16) }
+    {
+        self as u8
+    }
+}
 
 // A binding is a number of 16 bits: the variable, then 12 bits for the record.
 const RECORD_NUMBERS: usize = 4096;
-
-// A reading by value.
-#[derive(Clone, Copy)]
-pub struct Slot {
-    pub bytes: [u8; SLOT_BYTES],
-}
 
 // A slot out of lent memory.
 pub fn load(part: &[u8]) -> [u8; SLOT_BYTES]
     requires { length part.now ≡ slot_bytes }
     ensures { result ≡ part.now }
 {
-    let mut slot = [0u8; SLOT_BYTES];
-    let mut i = 0;
-    while i < SLOT_BYTES {
-        slot[i] = part[i];
-        i += 1;
-    }
+    let mut slot = [0; SLOT_BYTES];
+    slot.copy_from_slice(part);
     slot
 }
 
 // A slot into lent memory.
 pub fn store(part: &mut [u8], slot: &[u8; SLOT_BYTES])
-    requires { (length part.old ≡ slot_bytes) × (length slot.now ≡ slot_bytes) }
+    requires { length part.old ≡ slot_bytes }
     ensures { part.new ≡ slot.now }
 {
-    let mut i = 0;
-    while i < SLOT_BYTES {
-        part[i] = slot[i];
-        i += 1;
-    }
+    part.copy_from_slice(slot);
 }
 
 // The count of a slot's bindings.
@@ -94,7 +88,7 @@ pub fn binding_record(slot: &[u8], i: usize) -> usize
     numbers::number2(slot, 4 + 2 * i) as usize % RECORD_NUMBERS
 }
 
-// No bindings.
+// No bindings: its clause says what the bytes hold.
 pub fn empty_slot() -> [u8; SLOT_BYTES]
     ensures { (held_in result ≡ record { state = 0; bindings = [] }) × (length result ≡ slot_bytes) × (count_in result ≡ 0) }
 {
@@ -113,10 +107,8 @@ pub fn bind(slot: &mut [u8], i: usize, v: usize)
     let at = 4 + 2 * count;
     let binding = v * RECORD_NUMBERS + i;
     slot[1] = (count + 1) as u8;
-    slot[2] = (state / 256) as u8;
-    slot[3] = (state % 256) as u8;
-    slot[at] = (binding / 256) as u8;
-    slot[at + 1] = (binding % 256) as u8;
+    slot[2..4].copy_from_slice(&(state as u16).to_be_bytes());
+    slot[at..at + 2].copy_from_slice(&(binding as u16).to_be_bytes());
 }
 
 // All bytes from a place on 0.
@@ -125,23 +117,11 @@ pub fn clear_from(bytes: &mut [u8], at: usize)
     ensures { bytes.new
         ≡ take at bytes.old ++ replicate (length bytes.old - at) 0 }
 {
-    let end = bytes.len();
-    numbers::clear(&mut bytes[at..end]);
+    bytes[at..].fill(0);
 }
 
-// One slice into another.
-fn copy(to: &mut [u8], from: &[u8])
-    requires { length to.old ≡ length from.now }
-    ensures { to.new ≡ from.now }
-{
-    let mut i = 0;
-    while i < from.len() {
-        to[i] = from[i];
-        i += 1;
-    }
-}
-
-// One reported reading, from byte `at` on: its head, then its bindings, which stand in a slot as in a result.
+// One reported reading, from byte `at` on: its head, then its bindings, which stand in a slot as in a result. The mark
+// is told by its number, any below 16, as `closings::window_at` and `reach::Start` have it.
 pub fn put_line(res: &mut [u8], at: usize, mark: u8, slot: &[u8])
     requires { (mark < 16) × (length slot.now ≡ slot_bytes) × (count_in slot.now ≤ most_bindings)
         × (at + 2 + 2 * count_in slot.now ≤ length res.old) }
@@ -154,5 +134,5 @@ pub fn put_line(res: &mut [u8], at: usize, mark: u8, slot: &[u8])
     let last = 4 + 2 * count;
     res[at] = mark * 16;
     res[at + 1] = count as u8;
-    copy(&mut res[start..end], &slot[4..last]);
+    res[start..end].copy_from_slice(&slot[4..last]);
 }

@@ -1,7 +1,9 @@
 -- What the C calls that write promise: the packed answer and every byte of the host's memory.
-use Rattle.std.specs.Prelude.{◌≡◌, Bool, true, false, List, eqb, ℕ, ◌%◌, ◌≤◌}
+use Rattle.std.specs.Prelude.{◌≡◌, Bool, true, false, List, Result, Ok, Err, eqb, ℕ, ◌%◌, ◌≤◌}
 use Rattle.records.specs.declared.Answer.{Answer}
 use Rattle.records.specs.Blocks.{refused}
+use Rattle.records.specs.declared.refusals.Refusal.{Refusal}
+use Rattle.records.specs.Refusals.{code_of, place_of}
 use Rattle.patterns.specs.Checked.{pattern_answer}
 use Rattle.automaton.specs.Listing.{ListingPromise}
 use Rattle.form.specs.Promises.{ReadPromise, WritePromise}
@@ -25,6 +27,11 @@ pub record Fitness (lent : ℕ) (unfit : Bool) : Type 0 where
 unfoldable pub unfit_answer : List ℕ → List ℕ → Answer
 unfit_answer pattern block =
     elim (eqb (input_answer pattern block).code 0) [ true ↦ refused 8 0 | false ↦ input_answer pattern block ]
+
+-- the same, by what the judges of pattern, index and block say
+abbrev pub unfit_of : Result ℕ Refusal → Answer
+unfit_of (Ok count) = refused 8 0
+unfit_of (Err r) = refused (code_of r) (place_of r)
 
 -- Rule 7.8: spaldep_start_by_start, the packed answer and the result after it
 pub data StartByStartHost (pattern block : List ℕ) (lent word : ℕ) (result : List ℕ) : Type 0 where

@@ -1,43 +1,36 @@
 // The C calls. Each hands the host's bytes straight through and packs the answer into one number.
 #![tactic(auto)]
 
-ghost use Rattle.std.specs.Prelude.{◌≡◌, true, min, length};
+ghost use Rattle.std.specs.Prelude.{◌≡◌, true, length};
 ghost use Rattle.records.specs.Blocks.{block_answer, refused};
 ghost use Rattle.patterns.specs.Checked.{pattern_answer};
-ghost use Rattle.rule.specs.Calls.{input_answer};
 ghost use Rattle.spaldep.specs.Packed.{place_or_used, packed_answer};
-ghost use Rattle.spaldep.specs.Host.{Fitness, unfit_answer, StartByStartHost, ForwardHost, ListingHost};
+ghost use Rattle.spaldep.specs.Host.{Fitness, unfit_of, unfit_answer, StartByStartHost, ForwardHost, ListingHost};
 ghost use Rattle.spaldep.specs.Host.{ReadHost, WriteHost, MakeHost, SearchHost, unfit_search};
 
-use records::Answer;
+use records::{Answer, Refusal};
 
-// A number that stops at the largest one.
-fn capped(x: u64, largest: u64) -> u64
-    ensures { result ≡ min x largest }
-{
-    if x <= largest {
-        return x;
-    }
-    largest
-}
-
+// What a call says of an answer beside its code, which is a number (Rule 7.2).
+#[tactic(auto, unfolding(crate::specs::Packed::place_or_used))]
 fn place_or_used(a: Answer) -> u64
     ensures { result ≡ place_or_used a }
 {
     if a.code == 0 {
-        return a.used;
+        a.used
+    } else {
+        u64::from(a.place)
     }
-    a.place as u64
 }
 
 // The answer as one number (Rule 7.8): from the high end 8 bits for the code, 24 for place or used, then twice 16.
+#[tactic(auto, unfolding(crate::specs::Packed::packed_answer))]
 fn pack(a: Answer) -> u64
     ensures { result ≡ packed_answer a }
 {
-    let code = capped(a.code as u64, 255);
-    let place = capped(place_or_used(a), 16777215);
-    let readings = capped(a.readings, 65535);
-    let peak = capped(a.peak as u64, 65535);
+    let code = u64::from(a.code);
+    let place = place_or_used(a).min(16777215);
+    let readings = a.readings.min(65535);
+    let peak = u64::from(a.peak).min(65535);
     code * 72057594037927936 + place * 4294967296 + readings * 65536 + peak
 }
 
@@ -46,8 +39,7 @@ pub extern "C" fn spaldep_check_pattern(pattern: &[u8]) -> u64
     ensures { result ≡ packed_answer
         (refused (pattern_answer pattern.now).code (pattern_answer pattern.now).place) }
 {
-    let checked = patterns::check_pattern(pattern);
-    pack(records::refusal(checked.code, checked.place))
+    pack(Answer::from(patterns::read(pattern).map(|_| 0)))
 }
 
 #[unsafe(no_mangle)]
@@ -61,32 +53,36 @@ pub extern "C" fn spaldep_check_block(block: &[u8]) -> u64
 fn is_unfit(lent: usize) -> bool
     ensures { Fitness lent result }
 {
-    if lent % 2 != 0 {
-        return true;
-    }
-    slots::MOST_RESULT_BYTES < lent
+    lent % 2 != 0 || slots::MOST_RESULT_BYTES < lent
 }
 
-// What pattern and block are refused by; code 0 where both are accepted.
-fn input_answer(pattern: &[u8], block: &[u8]) -> Answer
-    ensures { result ≡ input_answer pattern.now block.now }
+// What pattern and block are refused by, if they are.
+fn judge_input(pattern: &[u8], block: &[u8]) -> Result<usize, Refusal>
+    ensures { unfit_of result ≡ unfit_answer pattern.now block.now }
 {
-    let checked = patterns::check_pattern(pattern);
-    if checked.code != 0 {
-        return records::refusal(checked.code, checked.place);
+    patterns::read(pattern)?;
+    records::judge(block)
+}
+
+// The same of a search: an index is judged behind the pattern (Rule 8.20).
+fn judge_search(pattern: &[u8], index: &[u8], block: &[u8]) -> Result<usize, Refusal>
+    ensures { unfit_of result ≡ unfit_search pattern.now index.now block.now }
+{
+    patterns::read(pattern)?;
+    if index::is_broken(index) {
+        return Err(Refusal::Index);
     }
-    records::check_block(block)
+    records::judge(block)
 }
 
 // The answer where the result slice is unfit: what the input is refused by, else 8.
-fn unfit_answer(pattern: &[u8], block: &[u8]) -> Answer
-    ensures { result ≡ unfit_answer pattern.now block.now }
+fn unfit_answer(judged: Result<usize, Refusal>) -> Answer
+    ensures { result ≡ unfit_of judged }
 {
-    let input = input_answer(pattern, block);
-    if input.code != 0 {
-        return input;
+    match judged {
+        Ok(_) => Answer::from(Refusal::Limit),
+        Err(refusal) => Answer::from(refusal),
     }
-    records::refusal(8, 0)
 }
 
 #[unsafe(no_mangle)]
@@ -110,7 +106,7 @@ pub extern "C" fn spaldep_forward(
     if is_unfit(res.len()) {
         numbers::clear(work);
         numbers::clear(res);
-        return pack(unfit_answer(pattern, block));
+        return pack(unfit_answer(judge_input(pattern, block)));
     }
     pack(forward::forward(pattern, block, limit, work, res))
 }
@@ -122,7 +118,7 @@ pub extern "C" fn spaldep_start_by_start(pattern: &[u8], block: &[u8], res: &mut
 {
     if is_unfit(res.len()) {
         numbers::clear(res);
-        return pack(unfit_answer(pattern, block));
+        return pack(unfit_answer(judge_input(pattern, block)));
     }
     pack(starts::start_by_start(pattern, block, res))
 }
@@ -148,18 +144,6 @@ pub extern "C" fn spaldep_make_index(block: &[u8], index: &mut [u8]) -> u64
     pack(index::make_index(block, index))
 }
 
-// The answer of a search where the result slice is unfit: an index is judged behind the pattern.
-fn unfit_search(pattern: &[u8], index: &[u8], block: &[u8]) -> Answer
-    ensures { result ≡ unfit_search pattern.now index.now block.now }
-{
-    let checked = patterns::check_pattern(pattern);
-    let first = index::first_refusal(checked.code, checked.place, index::is_broken(index));
-    if first.code != 0 {
-        return first;
-    }
-    unfit_answer(pattern, block)
-}
-
 #[unsafe(no_mangle)]
 pub extern "C" fn spaldep_search(
     pattern: &[u8],
@@ -173,7 +157,7 @@ pub extern "C" fn spaldep_search(
         (length work.old) (length res.old) result work.new res.new }
 {
     if is_unfit(res.len()) {
-        let answer = unfit_search(pattern, index, block);
+        let answer = unfit_answer(judge_search(pattern, index, block));
         return pack(search::cleared(answer, work, res));
     }
     pack(search::search(pattern, index, block, limit, work, res))

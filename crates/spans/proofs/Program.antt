@@ -2,7 +2,7 @@
 -- it writes is determined by the input. Assumes nothing.
 use mathlib.Core.Path.{◌≡◌, sym, ap, subst, ◌∙◌}
 use mathlib.Core.List.{List}
-use Prim.Native.Nat.{ℕ, ◌+◌, ◌-◌, ◌*◌, ◌≤◌, ◌<◌}
+use Prim.Native.Nat.{ℕ, ◌+◌, ◌-◌, ◌*◌, ◌≤◌}
 use native.Mathlib.Omega.{arith}
 use native.Mathlib.Decide.{ℕ_discrete}
 use borrow.Author.Tests.{ne_eqb}
@@ -22,17 +22,6 @@ use Rattle.spans.specs.Program.{length_bytes, pattern_length, pattern_bytes, blo
 use Rattle.spans.specs.Program.{Answered, Program}
 
 -- ## Parts of the input
-
-pub no_length :
-    (input result : List ℕ) (answer : Answer) → length input < length_bytes → answer ≡ refused 1 0
-    → Answered input answer result
-no_length input result answer h e = Answered.short (omega arith) e
-
-pub no-pattern :
-    (input result : List ℕ) (answer : Answer) (n : ℕ) → n ≡ pattern_length input → length input < length_bytes + n
-    → answer ≡ refused 1 0
-    → Answered input answer result
-no-pattern input result answer n e h a = Answered.short (omega arith) a
 
 pub pass-called :
     (input work result : List ℕ) (answer : Answer) (n lent_work lent_result : ℕ) → n ≡ pattern_length input

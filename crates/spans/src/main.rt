@@ -3,10 +3,9 @@
 #![tactic(auto)]
 
 ghost use Rattle.std.specs.Prelude.{◌≡◌, ◌≤◌, length, take};
-ghost use Rattle.lines.specs.Text.{text_room};
-ghost use Rattle.spans.specs.Program.{input_room, work_bytes, result_bytes, Answered, Program};
+ghost use Rattle.spans.specs.Program.{input_room, Answered, Program};
 
-use records::Answer;
+use records::{Answer, Refusal};
 use std::io;
 
 const LENGTH_BYTES: usize = 2;
@@ -32,57 +31,42 @@ const TEXT_ROOM: usize = lines::NUMBER_ROOM * (RESULT_ROOM / 2) + lines::LAST_RO
 fn main(rt: HostRuntime) -> io::Result<()> {
     let mut input = input_room();
     let n = tables::read_full(&mut rt.stdin(), &mut input)?;
-    let mut work = work_room();
-    let mut result = result_room();
-    let mut text = text_room();
+    let mut work = [0; WORK_ROOM];
+    let mut result = [0; RESULT_ROOM];
+    let mut text = [0; TEXT_ROOM];
     let end = put_text(&input[..n], &mut work, &mut result, &mut text);
-    rt.write_all(&text[0..end])
+    rt.write_all(&text[..end])
 }
 
+// The clause holds the room to what the theorem `cut` says of input that does not fit.
 fn input_room() -> [u8; INPUT_ROOM]
     ensures { input_room ≡ length result }
 {
     [0; INPUT_ROOM]
 }
 
-fn work_room() -> [u8; WORK_ROOM]
-    ensures { work_bytes ≡ length result }
-{
-    [0; WORK_ROOM]
-}
-
-fn result_room() -> [u8; RESULT_ROOM]
-    ensures { result_bytes ≡ length result }
-{
-    [0; RESULT_ROOM]
-}
-
-fn text_room() -> [u8; TEXT_ROOM]
-    ensures { text_room result_bytes ≡ length result }
-{
-    [0; TEXT_ROOM]
-}
-
 // Puts all that is written of an input at the start of text, and answers how many bytes that is.
-fn put_text(input: &[u8], work: &mut [u8], res: &mut [u8], text: &mut [u8]) -> usize
-    requires { (length work.old ≡ work_bytes) × (length res.old ≡ result_bytes)
-        × (length text.old ≡ text_room result_bytes) }
+fn put_text(
+    input: &[u8],
+    work: &mut [u8; WORK_ROOM],
+    res: &mut [u8; RESULT_ROOM],
+    text: &mut [u8; TEXT_ROOM],
+) -> usize
     ensures { Program input.now (take result text.new) × (result ≤ length text.new) }
 {
     let answer = answer_to(input, work, res);
     lines::put_answer(answer, res, text)
 }
 
-fn answer_to(input: &[u8], work: &mut [u8], res: &mut [u8]) -> Answer
-    requires { (length work.old ≡ work_bytes) × (length res.old ≡ result_bytes) }
+fn answer_to(input: &[u8], work: &mut [u8; WORK_ROOM], res: &mut [u8; RESULT_ROOM]) -> Answer
     ensures { Answered input.now result res.new }
 {
     if input.len() < LENGTH_BYTES {
-        return records::refusal(1, 0);
+        return Refusal::PatternLength.into();
     }
     let end = LENGTH_BYTES + numbers::number2(input, 0) as usize;
     if input.len() < end {
-        return records::refusal(1, 0);
+        return Refusal::PatternLength.into();
     }
     forward::forward(&input[LENGTH_BYTES..end], &input[end..], LIMIT, work, res)
 }

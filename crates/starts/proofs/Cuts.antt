@@ -1,9 +1,5 @@
 -- Why a reading takes no binding too many below the least record so far. Assumes nothing.
-use mathlib.Core.Path.{◌≡◌, refl, sym}
-use mathlib.Core.Bool.{Bool, true, false, not, true≢false}
-use mathlib.Core.List.{List}
-use Prim.Native.Nat.{ℕ, ◌≤◌, min}
-use native.Mathlib.Omega.{arith}
+use Rattle.std.proofs.Common.{◌≡◌, refl, sym, Bool, true, false, not, true≢false, List, ℕ, ◌≤◌, min, arith}
 use Rattle.numbers.proofs.Cases.{by_order}
 use Rattle.records.specs.Records.{records_of}
 use Rattle.slots.specs.Slots.{held_in}

@@ -1,75 +1,41 @@
 -- What was written and counted at the end meets the promises of the calls. Assumes nothing.
-use mathlib.Core.Path.{◌≡◌, refl, sym, ap, subst, ◌∙◌}
-use mathlib.Core.Logic.{⊎_elim}
-use mathlib.Core.List.{List, [], ◌∷◌, ◌++◌, append_assoc}
-use Prim.Native.Nat.{ℕ, zero, suc, ◌+◌, ◌-◌, ◌*◌, ◌/◌, ◌≤◌, ◌<◌, min}
-use native.Mathlib.Nat.{eq-or-lt_of_le}
-use native.Mathlib.Omega.{arith}
-use lib.ListN.{length, take, replicate, length-append, length-replicate}
-use borrow.Author.Tests.{lt-ltb, le-ltb, eq-eqb, ne_eqb}
+use Rattle.std.proofs.Common.{arith, ◌≡◌, refl, sym, ap, subst, ◌∙◌, List, [], ◌∷◌, ◌++◌, ℕ, ◌+◌, ◌-◌, ◌*◌, ◌/◌, ◌≤◌}
+use Rattle.std.proofs.Common.{◌<◌, length, replicate, Ok, Err, min, take, append_assoc, zero, suc, length-append}
+use Rattle.std.proofs.Common.{lt-ltb, le-ltb}
+use lib.ListN.{length-replicate, replicate-append-replicate}
 use Rattle.numbers.specs.Numbers.{bytes_of}
 use Rattle.numbers.proofs.Cases.{by_order}
 use Rattle.records.specs.declared.Answer.{Answer}
-use Rattle.records.specs.declared.Record.{Record}
-use Rattle.records.specs.Records.{record_at, record_count, records_of}
+use Rattle.records.specs.declared.refusals.Refusal.{Refusal}
+use Rattle.records.specs.declared.refusals.Refusal.TheVariants.{PatternLength, Header, Variable, Condition, BlockLength}
+use Rattle.records.specs.declared.refusals.Refusal.TheVariants.{Record, Time, Limit, Bindings, Live, ResultRoom, SliceRoom}
+use Rattle.records.specs.declared.refusals.Refusal.TheVariants.{Line, Index}
+use Rattle.records.specs.Refusals.{code_of, judged_as}
+use Rattle.records.specs.Records.{records_of}
 use Rattle.records.specs.Blocks.{refused, block_answer, most_records, InOrder}
-use Rattle.records.proofs.Listed.{length-records, record-listed}
-use Rattle.records.proofs.Blocks.{accepted-in-order as accepted-block}
 use Rattle.patterns.specs.declared.Pattern.{Pattern}
 use Rattle.patterns.specs.declared.Checked.{Checked}
-use Rattle.patterns.specs.Checked.{pattern_answer}
+use Rattle.patterns.specs.Checked.{checked_of, pattern_answer}
 use Rattle.patterns.specs.Checked.{InOrder as PatternInOrder}
-use Rattle.patterns.proofs.InOrder.{accepted-in-order as accepted-pattern}
-use Rattle.rule.specs.Rule.{Block, TimesNeverFall, behind_end, pack}
+use Rattle.patterns.proofs.InOrder.{read-accepted}
+use Rattle.rule.specs.Rule.{Block, TimesNeverFall, pack}
 use Rattle.rule.specs.Promises.{StartByStart, Measure, Outcome, refused_with, success, most_counted}
 use Rattle.rule.specs.Calls.{input_answer, zeros, room_in, result_of, StartByStartCall, MeasureCall}
 use Rattle.rule.specs.Starts.{Found, found_all, lines_of, least_over, start_answer, measure_answer}
+use Rattle.rule.proofs.Inputs.{times-never-fall, few-records, input-pattern, input-block, input-in-order}
 use Rattle.rule.proofs.StartAnswers.{start-answer-is, measure-answer-is, ends-long, ends-full, ends-well}
 use Rattle.rule.proofs.StartAnswers.{measure-ends-long, measure-ends-well}
 use Rattle.slots.proofs.Results.{bytes_of-append}
 use Rattle.starts.specs.declared.Counts.{Counts}
-use Rattle.starts.specs.Sinks.{Sink, sink_of, stop, emits, none_yet, answer_by, left_by, measure_by}
+use Rattle.starts.specs.Sinks.{Sink, sink_of, stop, emits, none_yet, Accepted, answer_by, left_by, measure_by}
 use Rattle.starts.proofs.Sinks.{least-all, used_all, readings-all, readings-few, memory-all}
 use Rattle.starts.specs.Skips.{Passed}
 use Rattle.starts.proofs.Same.{length-emits, counts_of, same_answer_lem, same_left, same-measure}
 
--- ## The input
-
--- times never fall from record to record
-module _ (bytes : List ℕ) (o : InOrder bytes) where
-  times-climb : (j : ℕ) → j < record_count bytes → (i : ℕ) → i ≤ j → (record_at bytes i).time ≤ (record_at bytes j).time
-  times-climb zero h i l = let e : i ≡ 0 = omega arith in rw e (omega arith)
-  times-climb (suc j) h i l =
-      let before = times-climb j (omega arith) in
-      let step = o.climbing j h in
-      ⊎_elim (λ e. rw e (omega arith)) (λ k. let b = before i (omega arith) in omega arith) (eq-or-lt_of_le {n = i} {m = suc j} l)
-
-  pub never-fall : TimesNeverFall (records_of bytes)
-  never-fall i j l h =
-      let n = length-records bytes in
-      let a = ap (λ (x : Record). x.time) (record-listed bytes i behind_end (omega arith)) in
-      let b = ap (λ (x : Record). x.time) (record-listed bytes j behind_end (omega arith)) in
-      let t = times-climb j (omega arith) i l in
-      omega arith
-
-module _ (pattern block : List ℕ) where
-  pub input-pattern :
-      ((pattern_answer pattern).code ≡ 0 → ⊥)
-      → input_answer pattern block ≡ refused (pattern_answer pattern).code (pattern_answer pattern).place
-  unfolding input_answer
-  input-pattern h = rw (ne_eqb (pattern_answer pattern).code 0 h, input_answer)
-
-  pub input-block : (pattern_answer pattern).code ≡ 0 → input_answer pattern block ≡ block_answer block
-  unfolding input_answer
-  input-block h = rw (eq-eqb (pattern_answer pattern).code 0 h, input_answer)
-
 -- ## Zeros
 
 zeros-append : (a b : ℕ) → zeros a ++ zeros b ≡ zeros (a + b)
-zeros-append zero b = let e : b ≡ 0 + b = omega arith in ap zeros e
-zeros-append (suc a) b =
-    let e : suc (a + b) ≡ suc a + b = omega arith in
-    ap (λ (l : List ℕ). 0 ∷ l) (zeros-append a b) ∙ ap zeros e
+zeros-append a b = replicate-append-replicate a b 0
 
 zeros-bytes : (k : ℕ) → bytes_of (replicate k 0) ≡ zeros (2 * k)
 unfolding bytes_of
@@ -221,130 +187,75 @@ module _ (p : Pattern) (B : Block) (mono : TimesNeverFall B) (few : length B ≤
   measure-ends answer a =
       subst (Measure p B) (sym (a ∙ by_order o.least most_records measure-long measure-well)) (measure-answer-is p B mono)
 
--- ## What finish leaves
+-- ## What is judged before the pass
 
-module _ (o : Counts) (memory : List ℕ) where
-  pub finish-long :
-      o.least < most_records → (answer : Answer) (after : List ℕ)
-      → answer ≡ refused 9 o.least → after ≡ replicate (length memory) 0
-      → (answer ≡ answer_by o (length memory / 2)) × (after ≡ left_by o memory)
-  unfolding answer_by left_by
-  finish-long h answer after a b =
-      let t = lt-ltb o.least most_records h in (rw (t, answer_by) a, rw (t, left_by) b)
+-- a refusal has a number
+code-some : (r : Refusal) → ¬ (code_of r ≡ 0)
+code-some PatternLength z = omega arith
+code-some Header z = omega arith
+code-some (Variable v) z = omega arith
+code-some (Condition j) z = omega arith
+code-some BlockLength z = omega arith
+code-some (Record i) z = omega arith
+code-some (Time i) z = omega arith
+code-some Limit z = omega arith
+code-some (Bindings i) z = omega arith
+code-some (Live i) z = omega arith
+code-some ResultRoom z = omega arith
+code-some SliceRoom z = omega arith
+code-some (Line l) z = omega arith
+code-some Index z = omega arith
 
-  pub finish-full :
-      most_records ≤ o.least → length memory / 2 < o.used → (answer : Answer) (after : List ℕ)
-      → answer ≡ refused 11 0 → after ≡ replicate (length memory) 0
-      → (answer ≡ answer_by o (length memory / 2)) × (after ≡ left_by o memory)
-  unfolding answer_by left_by
-  finish-full h g answer after a b =
-      let t = le-ltb o.least most_records h in
-      let u = lt-ltb (length memory / 2) o.used g in
-      (rw (t, u, answer_by) a, rw (t, u, left_by) b)
+module _ (pattern block : List ℕ) where
+  pub refused-pattern : (r : Refusal) → checked_of (Err r) ≡ pattern_answer pattern → Accepted pattern block (Err r)
+  refused-pattern r e =
+      let n : ¬ ((pattern_answer pattern).code ≡ 0) = λ z. code-some r (ap (λ (k : Checked). k.code) e ∙ z) in
+      let is = input-pattern pattern block n in
+      ((λ z. n (sym (ap (λ (a : Answer). a.code) is) ∙ z)), ap (λ (k : Checked). refused k.code k.place) e ∙ sym is)
 
-  pub finish-well :
-      most_records ≤ o.least → o.used ≤ length memory / 2 → (answer : Answer) (after : List ℕ)
-      → answer ≡ record { code = 0; place = 0; used = o.used; readings = o.readings; peak = 0 }
-      → after ≡ take (2 * o.used) memory ++ replicate (length memory - 2 * o.used) 0
-      → (answer ≡ answer_by o (length memory / 2)) × (after ≡ left_by o memory)
-  unfolding answer_by left_by
-  finish-well h g answer after a b =
-      let t = le-ltb o.least most_records h in
-      let u = le-ltb (length memory / 2) o.used g in
-      (rw (t, u, answer_by) a, rw (t, u, left_by) b)
+  module _ (p : Pattern) (read : checked_of (Ok p) ≡ pattern_answer pattern) where
+    whole : input_answer pattern block ≡ block_answer block
+    whole = input-block pattern block (read-accepted pattern p read)
+
+    pub refused_block : (r : Refusal) → judged_as (Err r) ≡ block_answer block → Accepted pattern block (Err r)
+    refused_block r e = ((λ z. code-some r (ap (λ (a : Answer). a.code) (e ∙ sym whole) ∙ z)), e ∙ sym whole)
+
+    pub both-accepted : (n : ℕ) → judged_as (Ok n) ≡ block_answer block → Accepted pattern block (Ok p)
+    both-accepted n e = (ap (λ (a : Answer). a.code) (whole ∙ sym e), ap (λ (k : Checked). k.pattern) read)
 
 -- ## The calls
 
-module _ (pattern block : List ℕ) (checked : Checked) (is : checked ≡ pattern_answer pattern) where
-  same_code : checked.code ≡ (pattern_answer pattern).code
-  same_code = ap (λ (x : Checked). x.code) is
+module _ (pattern block : List ℕ) (p : Pattern) (ok : Accepted pattern block (Ok p)) where
+  pub pattern-good : PatternInOrder p
+  pattern-good = rw ok.1 (input-in-order pattern block ok.0).checked
 
-  refused-pattern :
-      (checked.code ≡ 0 → ⊥) → (answer : Answer) → answer ≡ refused checked.code checked.place
-      → (¬ ((input_answer pattern block).code ≡ 0)) × (answer ≡ input_answer pattern block)
-  refused-pattern h answer a =
-      let e = input-pattern pattern block (λ z. h (same_code ∙ z)) in
-      ((λ z. h (same_code ∙ sym (ap (λ (x : Answer). x.code) e) ∙ z)), a ∙ ap (λ (x : Checked). refused x.code x.place) is ∙ sym e)
+  pub block-good : InOrder block
+  block-good = (input-in-order pattern block ok.0).ordered
 
-  pub call-pattern :
-      (checked.code ≡ 0 → ⊥) → (lent : ℕ) (answer : Answer) (after : List ℕ)
-      → answer ≡ refused checked.code checked.place → after ≡ zeros lent
+  pub call-answered :
+      (lent : ℕ) (memory : List ℕ) (o : Counts) → Passed p block 0 lent (sink_of memory o) → lent < stop
+      → (answer : Answer) (after : List ℕ) → answer ≡ answer_by o (length memory / 2)
+      → after ≡ left_by o memory
       → StartByStartCall pattern block lent answer after
-  call-pattern h lent answer after a b = let r = refused-pattern h answer a in StartByStartCall.refused_input r.0 r.1 b
+  call-answered lent memory o passed small answer after a b =
+      let t : Sink = emits (sink_of passed.memory none_yet) (found_all p (records_of block)) in
+      let size = length-emits (sink_of passed.memory none_yet) (found_all p (records_of block)) in
+      let half : length t.memory / 2 ≡ room_in (length passed.memory) = ap (λ (k : ℕ). k / 2) size in
+      let few = passed.size in
+      let r = start-ends p (records_of block) (times-never-fall block block-good) (few-records block block-good) passed.memory t.memory (counts_of t) refl size (omega arith) answer after
+      (a ∙ same_answer_lem (sink_of memory o) t passed.same ∙ ap (answer_by (counts_of t)) half)
+      (b ∙ same_left (sink_of memory o) t passed.same) in
+      let q = subst (λ (x : Pattern). Answered x (records_of block) lent answer after) ok.1
+      (subst (λ (k : ℕ). Answered p (records_of block) k answer after) few r) in
+      StartByStartCall.answered ok.0 q.numbers q.promise q.left
 
-  pub measure-pattern :
-      (checked.code ≡ 0 → ⊥) → (answer : Answer) → answer ≡ refused checked.code checked.place
+  pub measure-answered :
+      (lent : ℕ) (memory : List ℕ) (o : Counts) → Passed p block most_counted lent (sink_of memory o)
+      → (answer : Answer) → answer ≡ measure_by o
       → MeasureCall pattern block answer
-  measure-pattern h answer a = let r = refused-pattern h answer a in MeasureCall.refused_input r.0 r.1
-
-  module _ (good : checked.code ≡ 0) (input : Answer) (by : input ≡ block_answer block) where
-    whole-input : input_answer pattern block ≡ block_answer block
-    whole-input = input-block pattern block (sym same_code ∙ good)
-
-    refused_block :
-        (input.code ≡ 0 → ⊥) → (¬ ((input_answer pattern block).code ≡ 0)) × (input ≡ input_answer pattern block)
-    refused_block h = ((λ z. h (ap (λ (x : Answer). x.code) (by ∙ sym whole-input) ∙ z)), by ∙ sym whole-input)
-
-    pub call-block :
-        (input.code ≡ 0 → ⊥) → (lent : ℕ) (answer : Answer) (after : List ℕ) → answer ≡ input → after ≡ zeros lent
-        → StartByStartCall pattern block lent answer after
-    call-block h lent answer after a b = let r = refused_block h in StartByStartCall.refused_input r.0 (a ∙ r.1) b
-
-    pub measure-block : (input.code ≡ 0 → ⊥) → MeasureCall pattern block input
-    measure-block h = let r = refused_block h in MeasureCall.refused_input r.0 r.1
-
-    pub pattern-good : PatternInOrder checked.pattern
-    pattern-good = subst (λ (x : Checked). PatternInOrder x.pattern) (sym is) (accepted-pattern pattern (sym same_code ∙ good))
-
-    module _ (well : input.code ≡ 0) where
-      pub block-good : InOrder block
-      block-good = accepted-block block (sym (ap (λ (x : Answer). x.code) by) ∙ well)
-
-      answers : (input_answer pattern block).code ≡ 0
-      answers = ap (λ (x : Answer). x.code) (whole-input ∙ sym by) ∙ well
-
-      few-records : length (records_of block) ≤ most_records
-      few-records = let f = block-good.few in omega (arith, length-records block)
-
-      pub call-answered :
-          (lent : ℕ) (memory : List ℕ) (o : Counts) → Passed checked.pattern block 0 lent (sink_of memory o)
-          → lent < stop
-          → (answer : Answer) (after : List ℕ) → answer ≡ answer_by o (length memory / 2)
-          → after ≡ left_by o memory
-          → StartByStartCall pattern block lent answer after
-      call-answered lent memory o passed small answer after a b =
-          let t : Sink = emits (sink_of passed.memory none_yet) (found_all checked.pattern (records_of block)) in
-          let size = length-emits (sink_of passed.memory none_yet) (found_all checked.pattern (records_of block)) in
-          let half : length t.memory / 2 ≡ room_in (length passed.memory) = ap (λ (k : ℕ). k / 2) size in
-          let few = passed.size in
-          let r = start-ends checked.pattern (records_of block) (never-fall block block-good) few-records passed.memory t.memory (counts_of t) refl size (omega arith) answer after
-          (a ∙ same_answer_lem (sink_of memory o) t passed.same ∙ ap (answer_by (counts_of t)) half)
-          (b ∙ same_left (sink_of memory o) t passed.same) in
-          let q = subst (λ (x : Checked). Answered x.pattern (records_of block) lent answer after) is
-          (subst (λ (k : ℕ). Answered checked.pattern (records_of block) k answer after) few r) in
-          StartByStartCall.answered answers q.numbers q.promise q.left
-
-      pub measure-answered :
-          (lent : ℕ) (memory : List ℕ) (o : Counts) → Passed checked.pattern block most_counted lent (sink_of memory o)
-          → (answer : Answer) → answer ≡ measure_by o
-          → MeasureCall pattern block answer
-      measure-answered lent memory o passed answer a =
-          let t : Sink = emits (sink_of passed.memory none_yet) (found_all checked.pattern (records_of block)) in
-          MeasureCall.answered answers
-          (subst (λ (x : Checked). Measure x.pattern (records_of block) answer) is
-          (measure-ends checked.pattern (records_of block) (never-fall block block-good) few-records passed.memory t.memory (counts_of t) refl answer
-          (a ∙ same-measure (sink_of memory o) t passed.same)))
-
--- the counts as measure answers them
-module _ (o : Counts) where
-  pub measured-long : o.least < most_records → (answer : Answer) → answer ≡ refused 9 o.least → answer ≡ measure_by o
-  unfolding measure_by
-  measured-long h answer a = rw (lt-ltb o.least most_records h, measure_by) a
-
-  pub measured-well :
-      most_records ≤ o.least → (used readings : ℕ)
-      → used ≡ min o.used most_counted → readings ≡ min o.readings most_counted
-      → ◌≡◌ {A = Answer} (record { code = 0; place = 0; used = used; readings = readings; peak = 0 }) (measure_by o)
-  unfolding measure_by
-  measured-well h used readings a b =
-      rw (le-ltb o.least most_records h, measure_by) (λ i. record { code = 0; place = 0; used = a i; readings = b i; peak = 0 })
+  measure-answered lent memory o passed answer a =
+      let t : Sink = emits (sink_of passed.memory none_yet) (found_all p (records_of block)) in
+      MeasureCall.answered ok.0
+      (subst (λ (x : Pattern). Measure x (records_of block) answer) ok.1
+      (measure-ends p (records_of block) (times-never-fall block block-good) (few-records block block-good) passed.memory t.memory (counts_of t) refl answer
+      (a ∙ same-measure (sink_of memory o) t passed.same)))

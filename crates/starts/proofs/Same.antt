@@ -1,12 +1,8 @@
 -- Sinks that give the same answer: whatever is found next leaves them so, the answer is the same, and what cannot
 -- change it may be left out. Assumes nothing.
-use mathlib.Core.Path.{◌≡◌, refl, sym, ap, ◌∙◌}
-use mathlib.Core.Bool.{Bool, true, false, true≢false}
-use mathlib.Core.List.{List, [], ◌∷◌, Memᴰ}
-use Prim.Native.Nat.{ℕ, ◌+◌, ◌*◌, ◌/◌, ◌≤◌, ◌<◌, min}
-use native.Mathlib.Omega.{arith}
-use lib.ListN.{length, replicate}
-use borrow.Author.Tests.{lt-ltb, le-ltb}
+use Rattle.std.proofs.Common.{◌≡◌, refl, sym, ap, ◌∙◌, Bool, true, false, true≢false, List, [], ◌∷◌, ℕ, ◌+◌, ◌*◌, ◌/◌}
+use Rattle.std.proofs.Common.{◌≤◌, ◌<◌, min, arith, length, replicate, lt-ltb, le-ltb}
+use mathlib.Core.List.{Memᴰ}
 use Rattle.numbers.specs.Numbers.{bytes_of}
 use Rattle.numbers.proofs.Cases.{by_order}
 use Rattle.records.specs.Blocks.{refused, most_records}

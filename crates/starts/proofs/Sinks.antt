@@ -1,10 +1,7 @@
 -- What findings do to the lent result and the counts, one after another, and what they come to. Assumes nothing.
-use mathlib.Core.Path.{◌≡◌, refl, sym, ap, ap₂, ◌∙◌}
-use mathlib.Core.List.{List, [], ◌∷◌, ◌++◌, append-nil, append_assoc}
-use Prim.Native.Nat.{ℕ, ◌+◌, ◌*◌, ◌≤◌, ◌<◌, min}
-use native.Mathlib.Omega.{arith}
-use lib.ListN.{length, take, length-append}
-use borrow.Author.Tests.{le-leb, lt-leb}
+use Rattle.std.proofs.Common.{◌≡◌, refl, sym, ap, ap₂, ◌∙◌, List, [], ◌∷◌, ◌++◌, append-nil, append_assoc, ℕ, ◌+◌, ◌*◌}
+use Rattle.std.proofs.Common.{◌≤◌, ◌<◌, min, arith, length, take, length-append, le-leb}
+use borrow.Author.Tests.{lt-leb}
 use Rattle.numbers.specs.Numbers.{bytes_of, written}
 use Rattle.rule.specs.Rule.{Reading, pack, pack_bindings}
 use Rattle.rule.specs.Starts.{Found, lines_of, least_over}

@@ -1,14 +1,8 @@
 -- What each way out of skip and of branch comes to in the lent result and the counts, and what their calls ask for.
 -- Assumes nothing.
-use mathlib.Core.Path.{◌≡◌, refl, sym, ap, subst, ◌∙◌}
-use mathlib.Core.Bool.{true}
-use mathlib.Core.List.{List, [], ◌++◌, Memᴰ}
-use Prim.Native.Nat.{ℕ, suc, ◌+◌, ◌-◌, ◌*◌, ◌/◌, ◌^◌, ◌≤◌, ◌<◌, min}
-use native.Mathlib.Nat.{lt_of_lt_of_le}
-use native.Mathlib.Numerals.{add-one}
-use native.Mathlib.Omega.{arith}
-use lib.ListN.{length}
-use lib.Pow.{pow_mono}
+use Rattle.std.proofs.Common.{◌≡◌, refl, sym, ap, subst, ◌∙◌, true, List, [], ◌++◌, ℕ, suc, ◌+◌, ◌-◌, ◌*◌, ◌/◌, ◌^◌}
+use Rattle.std.proofs.Common.{◌≤◌, ◌<◌, min, lt_of_lt_of_le, add-one, arith, length, pow_mono}
+use mathlib.Core.List.{Memᴰ}
 use Rattle.numbers.specs.Numbers.{one_if}
 use Rattle.numbers.specs.Bits.{bit, mask, IsLowestBit}
 use Rattle.records.specs.Records.{records_of}
@@ -382,9 +376,6 @@ module _ (plan bytes : List ℕ) (s : Start) (slot : List ℕ) (j : ℕ) where
                 above =
                     record { none = λ p o x m. at.above.none p o x (subst (Memᴰ (over x)) (sym (next-list p o)) m) };
               }
-
-          pub skip-given-up : (before : Sink) → give_up ≤ before.steps → Skipped plan bytes s slot j v before before
-          skip-given-up before h = record { led = led-given-up of s.most s.limit _ before h }
 
           -- a cut: where nothing can change the answer any more, no branch is taken
           pub skip-settled :

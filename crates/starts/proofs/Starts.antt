@@ -1,13 +1,8 @@
 -- One start after another: what each way out of a start comes to, and what is left to be done. Assumes nothing.
-use mathlib.Core.Path.{◌≡◌, sym, ap, subst, ◌∙◌}
-use mathlib.Core.List.{List, [], Memᴰ}
-use Prim.Native.Nat.{ℕ, zero, suc, ◌+◌, ◌-◌, ◌/◌, ◌≤◌, ◌<◌, ◌^◌}
-use native.Mathlib.Numerals.{add-one}
-use native.Mathlib.Omega.{arith}
-use lib.Dec.{eqb}
-use lib.Bits.{bit_and}
-use lib.ListN.{length, get_or}
-use borrow.Author.Tests.{eqb-true, eqb-false}
+use Rattle.std.proofs.Common.{◌≡◌, sym, ap, subst, ◌∙◌, List, [], ℕ, suc, ◌+◌, ◌-◌, ◌/◌, ◌≤◌, ◌<◌, ◌^◌, add-one}
+use Rattle.std.proofs.Common.{arith, eqb, length, eqb-true}
+use mathlib.Core.List.{Memᴰ}
+use borrow.Author.Tests.{eqb-false}
 use Rattle.numbers.proofs.Cases.{by-test}
 use Rattle.records.specs.Records.{record_at, record_count, records_of, event_kind}
 use Rattle.records.proofs.Listed.{length-records}
@@ -25,16 +20,15 @@ use Rattle.starts.specs.declared.Counts.{Counts}
 use Rattle.closings.specs.declared.Window.{Window}
 use Rattle.starts.specs.Sinks.{Sink, sink_of, stop, emits, Same}
 use Rattle.starts.specs.Sinks.Same.{equal}
-use Rattle.reach.specs.Readings.{firing_by, leaving_by, Cans, Usable, Of}
-use Rattle.reach.proofs.Masks.{first_read}
+use Rattle.reach.specs.Readings.{firing_by, Usable, Of}
 use Rattle.starts.specs.Skips.{By, Firing, Branching, Settled, give_up, Branched, branch_over}
 use Rattle.starts.specs.Skips.{AllStarted}
-use Rattle.closings.specs.Closings.{gap_mark_by, OpenTo, WindowIs}
+use Rattle.closings.specs.Closings.{gap_mark_by, WindowIs}
 use Rattle.sweep.specs.Floors.{Floor}
 use Rattle.starts.proofs.Sinks.{emits-append}
 use Rattle.starts.proofs.Same.{same_refl, same-trans, same-emits, cut}
 use Rattle.reach.proofs.Readings.{nothing, firing-begins, firing-bound, empty-reads}
-use Rattle.closings.proofs.Windows.{is-event, is-gap, open-later}
+use Rattle.closings.proofs.Windows.{is-event, is-gap}
 use Rattle.reach.proofs.MaskInTurn.{turn-none, mask-turn, low_bits}
 use Rattle.starts.proofs.Skips.{few_bits, all-taken, settled-idle}
 
@@ -51,6 +45,24 @@ pub gap_of :
     → gap_mark p ≡ gap
 gap_of plan bytes n c gap e p o =
     sym (gap-mark-by p o.order plan o.made) ∙ ap (gap_mark_by plan) (sym o.variables) ∙ sym e
+
+-- a start as it is handed on, by its window
+abbrev pub start_of : ℕ → ℕ → ℕ → Window → ℕ → ℕ → ℕ → Start
+start_of n c duration w floor most limit =
+    record {
+      n = n;
+      c = c;
+      duration = duration;
+      until = w.until;
+      mark = w.mark;
+      floor = floor;
+      most = most;
+      limit = limit;
+    }
+
+-- the counts as a start begins with so many branches
+abbrev pub with_steps : Counts → ℕ → Counts
+with_steps counts steps = record { used = counts.used; readings = counts.readings; least = counts.least; steps = steps }
 
 -- what is found from record i, unless the start was given up
 pub record Started (plan bytes : List ℕ) (n c duration most i : ℕ) (before after : Sink) : Type 0 where
@@ -100,16 +112,7 @@ module _ (plan bytes : List ℕ) (n c duration most i : ℕ) (usable : Usable pl
     module _ (event : (record_at bytes i).kind ≡ event_kind) (slot : List ℕ) (none : held_in slot ≡ nothing) (s : Start)
         (gap : ℕ) (of-gap : (p : Pattern) → Of p plan bytes n c → gap_mark p ≡ gap) (w : Window)
         (window : WindowIs bytes duration gap i w)
-        (is-start : s ≡ record {
-          n = n;
-          c = c;
-          duration = duration;
-          until = w.until;
-          mark = w.mark;
-          floor = s.floor;
-          most = most;
-          limit = s.limit;
-        }) where
+        (is-start : s ≡ start_of n c duration w s.floor most s.limit) where
       same-until : s.until ≡ w.until
       same-until = ap (λ (x : Start). x.until) is-start
 
@@ -292,39 +295,3 @@ module _ (plan bytes : List ℕ) (n c duration most : ℕ) (none : Sink) where
               subst (λ (k : List Found). Same most (emits now k) (emits none (found_all p (records_of bytes)))) (found-end p (records_of bytes) i (record_count bytes) l)
               (left.found p o d);
         }
-
--- records at which no reading begins are passed
-pub left_passed :
-    (plan bytes : List ℕ) (n c duration most : ℕ) → Usable plan bytes n c → (none now : Sink) (cans : List ℕ)
-    → Cans plan bytes n c cans
-    → (first : ℕ) → first ≡ leaving_by plan n 0
-    → (d i : ℕ) → i + d ≤ record_count bytes
-    → ((k : ℕ) → i ≤ k → k < i + d → bit_and (get_or cans k 0) first ≡ 0)
-    → Left plan bytes n c duration most i none now
-    → Left plan bytes n c duration most (i + d) none now
-left_passed plan bytes n c duration most usable none now cans settled first is zero i l h left =
-    let e : i ≡ i + 0 = omega arith in
-    subst (λ (k : ℕ). Left plan bytes n c duration most k none now) e left
-left_passed plan bytes n c duration most usable none now cans settled first is (suc d) i l h left =
-    let e : i + 1 + d ≡ i + suc d = omega arith in
-    let inside : i < record_count bytes = omega arith in
-    let read = first_read plan bytes n c usable.variables cans settled i inside first is in
-    let done = started_none plan bytes n c duration most i usable inside (bit_and (get_or cans i 0) first) read (h i (omega arith) (omega arith)) now in
-    subst (λ (k : ℕ). Left plan bytes n c duration most k none now) e
-    (left_passed plan bytes n c duration most usable none now cans settled first is d (i + 1) (omega arith) (λ k a b. h k (omega arith) (omega arith))
-    (left-more plan bytes n c duration most none i now left inside now done))
-
--- and what is open from the first of them is open from the one behind them
-pub open-passed :
-    (bytes : List ℕ) (duration opened : ℕ)
-    → ((i : ℕ) → suc i < record_count bytes → (record_at bytes i).time ≤ (record_at bytes (suc i)).time)
-    → opened ≤ record_count bytes
-    → (d i : ℕ) → OpenTo bytes duration i opened
-    → OpenTo bytes duration (i + d) opened
-open-passed bytes duration opened climbing few zero i near =
-    let e : i ≡ i + 0 = omega arith in
-    subst (λ (k : ℕ). OpenTo bytes duration k opened) e near
-open-passed bytes duration opened climbing few (suc d) i near =
-    let e : i + 1 + d ≡ i + suc d = omega arith in
-    subst (λ (k : ℕ). OpenTo bytes duration k opened) e
-    (open-passed bytes duration opened climbing few d (i + 1) (open-later bytes duration i opened climbing few near))

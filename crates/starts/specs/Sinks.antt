@@ -1,9 +1,13 @@
 -- What the start-by-start pass has written and counted, and what a finding does to it. No promise of a public call
 -- names this file.
-use Rattle.std.specs.Prelude.{◌≡◌, true, false, List, [], ◌∷◌, ◌++◌, ℕ, ◌+◌, ◌-◌, ◌*◌, ◌/◌, ◌≤◌, ◌<◌, min, leb, ltb, length, take, replicate}
+use Rattle.std.specs.Prelude.{◌≡◌, true, false, List, [], ◌∷◌, ◌++◌, ℕ, ◌+◌, ◌-◌, ◌*◌, ◌/◌, ◌≤◌, ◌<◌, min, leb, ltb, length, take, replicate, Result, Ok, Err}
 use Rattle.numbers.specs.Numbers.{bytes_of, written}
 use Rattle.records.specs.declared.Answer.{Answer}
 use Rattle.records.specs.Blocks.{refused, most_records}
+use Rattle.records.specs.declared.refusals.Refusal.{Refusal}
+use Rattle.records.specs.Refusals.{code_of, place_of}
+use Rattle.patterns.specs.declared.Pattern.{Pattern}
+use Rattle.rule.specs.Calls.{input_answer, pattern_in}
 use Rattle.rule.specs.Promises.{most_counted}
 use Rattle.rule.specs.Starts.{Found}
 use Rattle.rule.specs.Starts.Found.{closed, over}
@@ -90,6 +94,13 @@ pub data Same (most : ℕ) (s t : Sink) : Type 0 where
       length s.memory ≡ length t.memory → s.least ≡ t.least → Told most s → Told most t → Same most s t
 
 -- ## The answer
+
+-- what is judged before the pass: the checked pattern of the bytes, where pattern and block are in order, or what they
+-- are refused with
+abbrev pub Accepted : List ℕ → List ℕ → Result Pattern Refusal → Type 0
+Accepted pattern block (Ok p) = ((input_answer pattern block).code ≡ 0) × (p ≡ pattern_in pattern)
+Accepted pattern block (Err r) =
+    ¬ ((input_answer pattern block).code ≡ 0) × (refused (code_of r) (place_of r) ≡ input_answer pattern block)
 
 -- 9, then 11, by what was counted
 unfoldable pub answer_by : Counts → ℕ → Answer

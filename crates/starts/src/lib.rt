@@ -3,24 +3,31 @@
 
 ghost use Rattle.std.specs.Prelude.{◌≡◌, true, false, ◌+◌, ◌-◌, ◌*◌, ◌^◌, ◌/◌, ◌<◌, ◌≤◌, min, length, replicate};
 ghost use Rattle.numbers.specs.Bits.{within};
-ghost use Rattle.records.specs.Blocks.{InOrder as BlockInOrder, most_records};
+ghost use Rattle.records.specs.Blocks.{InOrder as BlockInOrder, most_records, refused};
+ghost use Rattle.records.specs.Refusals.{code_of, place_of};
 ghost use Rattle.patterns.specs.Checked.{InOrder};
 ghost use Rattle.patterns.specs.Patterns.{most_variables};
-ghost use Rattle.rule.specs.Promises.{most_bindings, most_counted};
+ghost use Rattle.rule.specs.Promises.{most_bindings};
 ghost use Rattle.rule.specs.Starts.Found.{closed};
 ghost use Rattle.rule.specs.Calls.{StartByStartCall, MeasureCall};
 ghost use Rattle.slots.specs.Slots.{slot_bytes, count_in, held_in};
-ghost use Rattle.starts.specs.Sinks.{sink_of, sum as sum_to, emit, none_yet, answer_by, left_by, measure_by};
+ghost use Rattle.starts.specs.Sinks.{sink_of, emit, none_yet, Accepted, answer_by, left_by, measure_by};
 ghost use Rattle.reach.specs.Readings.{Cans, Reads, Usable, Ready};
 ghost use Rattle.starts.specs.Skips.{Above, Taking, Branching, Mute, Settled, patience};
 ghost use Rattle.sweep.specs.Floors.{Floor};
 ghost use Rattle.starts.specs.Skips.{Closed, Skipped, Branched, AllStarted, Passed};
 
+use patterns::Pattern;
+use plans::Plan;
+use reach::Start;
+use records::{Answer, MOST_RECORDS, Refusal};
+use sweep::Swept;
+
 // The number of no record.
-const NO_RECORD: u32 = records::MOST_RECORDS as u32;
+const NO_RECORD: u32 = MOST_RECORDS as u32;
 
 // Where measure's counts stop (Rule 7.7).
-const MOST_COUNTED: usize = 4294967295;
+const MOST_COUNTED: usize = u32::MAX as usize;
 
 // How many branches a start takes before each is asked what it can still come to.
 const PATIENCE: u32 = 64;
@@ -28,12 +35,10 @@ const PATIENCE: u32 = 64;
 // How many branches a start takes before the block is looked at as a whole.
 const GIVE_UP: u32 = 256;
 
-// Where counts stop: beyond any room.
-const STOP: usize = 18446744073709551615;
-
 // The numbers and readings so far, the least record at which a reading would take a binding too many, and how many
-// branches this start has taken, up to a limit.
-#[derive(Clone, Copy)]
+// branches this start has taken, up to a limit. `least` is the number of no record where there is none: an `Option`
+// would be no plainer, since the least of two records is kept, and `Sinks` states it as `min`.
+#[derive(Clone, Copy, Debug, PartialEq, Eq)]
 pub struct Counts {
     pub used: usize,
     pub readings: usize,
@@ -41,16 +46,18 @@ pub struct Counts {
     pub steps: u32,
 }
 
+// Nothing counted.
+const NONE_YET: Counts = Counts {
+    used: 0,
+    readings: 0,
+    least: NO_RECORD,
+    steps: 0,
+};
+
 // ## What is written and counted
 
-// The sum, or the largest number where it does not fit.
-fn sum(a: usize, b: usize) -> usize
-    ensures { result ≡ sum_to a b }
-{
-    if a <= STOP - b { a + b } else { STOP }
-}
-
-// Writes a reading that closed, where there is room, and counts it.
+// Writes a reading that closed, where there is room, and counts it. Counts stop at the largest number, beyond any room.
+// The mark is that of a `reach::Start`, by its number.
 fn report(res: &mut [u8], slot: &[u8], mark: u8, counts: Counts) -> Counts
     requires { (length slot.now ≡ slot_bytes) × (count_in slot.now ≤ most_bindings) × (mark < 16) }
     ensures { sink_of res.new result
@@ -58,19 +65,14 @@ fn report(res: &mut [u8], slot: &[u8], mark: u8, counts: Counts) -> Counts
 {
     let bindings = slots::count_of(slot);
     let at = counts.used;
-    let more = Counts {
-        used: sum(at, bindings + 1),
-        readings: sum(counts.readings, 1),
-        least: counts.least,
-        steps: counts.steps,
-    };
-    let room = res.len() / 2;
-    if at < room {
-        if bindings < room - at {
-            slots::put_line(res, 2 * at, mark, slot);
-        }
+    if bindings < (res.len() / 2).saturating_sub(at) {
+        slots::put_line(res, 2 * at, mark, slot);
     }
-    more
+    Counts {
+        used: at.saturating_add(bindings + 1),
+        readings: counts.readings.saturating_add(1),
+        ..counts
+    }
 }
 
 // Whether a state holds all n variables.
@@ -82,7 +84,7 @@ fn is_full(state: u64, n: usize) -> bool
 }
 
 // A reading closes: it is reported where its state is full.
-fn close(res: &mut [u8], slot: &[u8], s: reach::Start, counts: Counts) -> Counts
+fn close(res: &mut [u8], slot: &[u8], s: Start, counts: Counts) -> Counts
     requires { (Reads s.n s.until slot.now) × (s.n ≤ most_variables) × (s.mark < 16) }
     ensures { Closed s slot.now (sink_of res.old counts)
         (sink_of res.new result) }
@@ -100,15 +102,9 @@ fn note_over(counts: Counts, j: usize) -> Counts
     ensures { (result.used ≡ counts.used) × (result.readings ≡ counts.readings)
         × (result.least ≡ min counts.least j) × (result.steps ≡ counts.steps) }
 {
-    if j < counts.least as usize {
-        Counts {
-            used: counts.used,
-            readings: counts.readings,
-            least: j as u32,
-            steps: counts.steps,
-        }
-    } else {
-        counts
+    Counts {
+        least: counts.least.min(j as u32),
+        ..counts
     }
 }
 
@@ -118,21 +114,15 @@ fn note_over(counts: Counts, j: usize) -> Counts
 fn is_told(counts: Counts, room: usize, most: usize) -> bool
     ensures { result ≡ true → (room < counts.used) × (most ≤ counts.used) × (most ≤ counts.readings) }
 {
-    if counts.used <= room {
-        return false;
-    }
-    if counts.used < most {
-        return false;
-    }
-    most <= counts.readings
+    room < counts.used && most <= counts.used && most <= counts.readings
 }
 
 // Whether a report of the reading, held before record j, may still change the answer.
 fn may_report(
     block: &[u8],
-    plan: &[u64; plans::PLAN_ROOM],
-    cans: &[u16; records::MOST_RECORDS],
-    s: reach::Start,
+    plan: &Plan,
+    cans: &[u16; MOST_RECORDS],
+    s: Start,
     j: usize,
     slot: &[u8],
     counts: Counts,
@@ -142,31 +132,17 @@ fn may_report(
         × Cans plan.now block.now s.n s.c cans.now }
     ensures { result ≡ false → Mute plan.now block.now s slot.now j counts room }
 {
-    if counts.least < NO_RECORD {
-        return false;
-    }
-    if is_told(counts, room, s.most) {
-        return false;
-    }
-    if counts.steps < PATIENCE {
-        return true;
-    }
-    fills::can_fill(block, plan, cans, s, j, slot)
-}
-
-// The smaller of two.
-fn smaller(a: usize, b: usize) -> usize
-    ensures { result ≡ min a b }
-{
-    if a < b { a } else { b }
+    NO_RECORD <= counts.least
+        && !is_told(counts, room, s.most)
+        && (counts.steps < PATIENCE || fills::can_fill(block, plan, cans, s, j, slot))
 }
 
 // Whether the reading, held before record j, may still take a binding too many below the least record so far.
 fn may_exceed(
     block: &[u8],
-    plan: &[u64; plans::PLAN_ROOM],
-    cans: &[u16; records::MOST_RECORDS],
-    s: reach::Start,
+    plan: &Plan,
+    cans: &[u16; MOST_RECORDS],
+    s: Start,
     j: usize,
     slot: &[u8],
     counts: Counts,
@@ -177,25 +153,18 @@ fn may_exceed(
     ensures { result ≡ false → Above plan.now block.now s j
         (held_in slot.now).bindings counts.least }
 {
-    let end = smaller(s.until, counts.least as usize);
-    if end <= s.floor {
-        return false;
-    }
-    if !exceeds::has_room(s, j, slot, end) {
-        return false;
-    }
-    if counts.steps < PATIENCE {
-        return true;
-    }
-    exceeds::can_exceed(block, plan, cans, s, j, slot, end)
+    let end = s.until.min(counts.least as usize);
+    s.floor < end
+        && exceeds::has_room(s, j, slot, end)
+        && (counts.steps < PATIENCE || exceeds::can_exceed(block, plan, cans, s, j, slot, end))
 }
 
 // Whether nothing that the reading, held before record j, can still come to changes the answer.
 fn is_settled(
     block: &[u8],
-    plan: &[u64; plans::PLAN_ROOM],
-    cans: &[u16; records::MOST_RECORDS],
-    s: reach::Start,
+    plan: &Plan,
+    cans: &[u16; MOST_RECORDS],
+    s: Start,
     j: usize,
     slot: &[u8],
     counts: Counts,
@@ -207,10 +176,8 @@ fn is_settled(
     ensures { result ≡ true
         → Settled plan.now block.now s slot.now j counts room }
 {
-    if may_report(block, plan, cans, s, j, slot, counts, room) {
-        return false;
-    }
-    !may_exceed(block, plan, cans, s, j, slot, counts)
+    !may_report(block, plan, cans, s, j, slot, counts, room)
+        && !may_exceed(block, plan, cans, s, j, slot, counts)
 }
 
 // One branch more, up to the limit.
@@ -220,10 +187,8 @@ fn stepped(counts: Counts, limit: u32) -> Counts
 {
     if counts.steps < limit {
         Counts {
-            used: counts.used,
-            readings: counts.readings,
-            least: counts.least,
             steps: counts.steps + 1,
+            ..counts
         }
     } else {
         counts
@@ -237,12 +202,12 @@ fn stepped(counts: Counts, limit: u32) -> Counts
 #[cycle(branch_skip)]
 fn skip(
     block: &[u8],
-    plan: &[u64; plans::PLAN_ROOM],
-    cans: &[u16; records::MOST_RECORDS],
+    plan: &Plan,
+    cans: &[u16; MOST_RECORDS],
     slot: &[u8],
     j: usize,
     v: usize,
-    s: reach::Start,
+    s: Start,
     res: &mut [u8],
     counts: Counts,
 ) -> Counts
@@ -260,13 +225,11 @@ fn skip(
     if slots::count_of(&bytes) == slots::MOST_BINDINGS {
         return note_over(counts, fire.at);
     }
-    if PATIENCE <= counts.steps {
-        if GIVE_UP <= counts.steps {
-            return counts;
-        }
-        if is_settled(block, plan, cans, s, fire.at, &bytes, counts, res.len() / 2) {
-            return counts;
-        }
+    if PATIENCE <= counts.steps
+        && (GIVE_UP <= counts.steps
+            || is_settled(block, plan, cans, s, fire.at, &bytes, counts, res.len() / 2))
+    {
+        return counts;
     }
     branch(
         block,
@@ -285,12 +248,12 @@ fn skip(
 #[cycle(branch_skip)]
 fn branch(
     block: &[u8],
-    plan: &[u64; plans::PLAN_ROOM],
-    cans: &[u16; records::MOST_RECORDS],
+    plan: &Plan,
+    cans: &[u16; MOST_RECORDS],
     slot: &[u8],
     j: usize,
     firing: u64,
-    s: reach::Start,
+    s: Start,
     res: &mut [u8],
     counts: Counts,
 ) -> Counts
@@ -301,6 +264,7 @@ fn branch(
 {
     let mut taken = counts;
     let mut rest = firing;
+    // By the bits that are set, which are few.
     while rest != 0 {
         let v = numbers::lowest_bit(rest);
         taken = skip(block, plan, cans, slot, j, v, s, res, taken);
@@ -316,25 +280,10 @@ fn branch(
 fn first_steps(counts: Counts, room: usize, most: usize) -> u32
     ensures { result ≤ patience }
 {
-    if counts.least < NO_RECORD {
-        return PATIENCE;
-    }
-    if is_told(counts, room, most) {
-        return PATIENCE;
-    }
-    0
-}
-
-// The counts before a start's first branch.
-fn begun(counts: Counts, steps: u32) -> Counts
-    ensures { result
-        ≡ record { used = counts.used; readings = counts.readings; least = counts.least; steps = steps } }
-{
-    Counts {
-        used: counts.used,
-        readings: counts.readings,
-        least: counts.least,
-        steps,
+    if counts.least < NO_RECORD || is_told(counts, room, most) {
+        PATIENCE
+    } else {
+        0
     }
 }
 
@@ -343,11 +292,11 @@ fn begun(counts: Counts, steps: u32) -> Counts
 // last one ended.
 fn each_start(
     block: &[u8],
-    plan: &[u64; plans::PLAN_ROOM],
+    plan: &Plan,
     n: usize,
     c: usize,
     duration: u64,
-    cans: &[u16; records::MOST_RECORDS],
+    cans: &[u16; MOST_RECORDS],
     floor: usize,
     most: usize,
     limit: u32,
@@ -358,32 +307,21 @@ fn each_start(
     ensures { AllStarted plan.now block.now n c duration most limit
         (sink_of res.old none_yet) (sink_of res.new result) }
 {
-    let mut counts = Counts {
-        used: 0,
-        readings: 0,
-        least: NO_RECORD,
-        steps: 0,
-    };
-    let gap = closings::gap_mark(plan, n);
+    let mut counts = NONE_YET;
+    let gap = closings::gap_mark(plan, n).number();
     let first = reach::leaving(plan, n, 0);
     let empty = slots::empty_slot();
     let count = block.len() / records::RECORD_BYTES;
     let mut opened = 0;
-    let mut i = 0;
-    while i < count {
+    for i in 0..count {
         let firing = cans[i] as u64 & first;
-        if firing == 0 {
-            i = reach::next_can(cans, first, i + 1, count);
-            continue;
-        }
-        if records::kind_at(block, i) != records::EVENT {
-            i += 1;
+        if firing == 0 || !records::is_event(block, i) {
             continue;
         }
         let w = closings::window_at(block, duration, i, opened, gap);
         opened = w.until;
-        counts = begun(counts, first_steps(counts, res.len() / 2, most));
-        let s = reach::Start {
+        counts.steps = first_steps(counts, res.len() / 2, most);
+        let s = Start {
             n,
             c,
             duration,
@@ -393,37 +331,22 @@ fn each_start(
             most,
             limit,
         };
-        if PATIENCE <= counts.steps {
-            if is_settled(block, plan, cans, s, i, &empty, counts, res.len() / 2) {
-                i += 1;
-                continue;
-            }
+        if PATIENCE <= counts.steps
+            && is_settled(block, plan, cans, s, i, &empty, counts, res.len() / 2)
+        {
+            continue;
         }
         counts = branch(block, plan, cans, &empty, i, firing, s, res, counts);
         if GIVE_UP <= counts.steps {
             return counts;
         }
-        i += 1;
     }
     counts
 }
 
-// The counts where all that matters is a binding too many at a record.
-fn decided(least: usize) -> Counts
-    requires { least ≤ most_records }
-    ensures { result ≡ record { used = 0; readings = 0; least = least; steps = 0 } }
-{
-    Counts {
-        used: 0,
-        readings: 0,
-        least: least as u32,
-        steps: 0,
-    }
-}
-
 // What the answer depends on of all that is found of a checked pattern in a checked block. Counts from `most` on are
 // not told. Where a start takes many branches, the block is looked at as a whole, and then the starts once more.
-fn pass(p: patterns::Pattern, block: &[u8], most: usize, res: &mut [u8]) -> Counts
+fn pass(p: Pattern, block: &[u8], most: usize, res: &mut [u8]) -> Counts
     requires { (InOrder p) × BlockInOrder block.now }
     ensures { Passed p block.now most (length res.old)
         (sink_of res.new result) }
@@ -437,47 +360,55 @@ fn pass(p: patterns::Pattern, block: &[u8], most: usize, res: &mut [u8]) -> Coun
     if quick.steps < GIVE_UP {
         return quick;
     }
-    let swept = sweep::sweep(block, &plan, &cans, p.n, p.c, p.duration);
-    if swept.exact {
-        return decided(swept.floor);
-    }
+    let floor = match sweep::sweep(block, &plan, &cans, p.n, p.c, p.duration) {
+        Swept::Reached(least) => {
+            return Counts {
+                least: least as u32,
+                ..NONE_YET
+            };
+        }
+        Swept::NotBefore(floor) => floor,
+    };
     each_start(
-        block,
-        &plan,
-        p.n,
-        p.c,
-        p.duration,
-        &cans,
-        swept.floor,
-        most,
-        PATIENCE,
-        res,
+        block, &plan, p.n, p.c, p.duration, &cans, floor, most, PATIENCE, res,
     )
 }
 
 // ## The calls
 
+// The checked pattern, where the block is in order too, or refusals 1 to 7. Not inlined: its copies of the pattern
+// would stand in the caller's frame while the pass goes on.
+#[inline(never)]
+fn accepted(pattern: &[u8], block: &[u8]) -> Result<Pattern, Refusal>
+    ensures { Accepted pattern.now block.now result }
+{
+    let p = patterns::read(pattern)?;
+    records::judge(block)?;
+    Ok(p)
+}
+
 // A refusal: the result is all 0.
-fn refuse(res: &mut [u8], answer: records::Answer) -> records::Answer
-    ensures { (result ≡ answer) × (res.new ≡ replicate (length res.old) 0) }
+fn refuse(res: &mut [u8], refusal: Refusal) -> Answer
+    ensures { (result ≡ refused (code_of refusal) (place_of refusal)) × (res.new ≡ replicate (length res.old) 0) }
 {
     numbers::clear(res);
-    answer
+    Answer::from(refusal)
 }
 
 // Refusals 9 and 11, or what was counted with the bytes behind it 0.
-fn finish(res: &mut [u8], counts: Counts) -> records::Answer
+#[tactic(auto, unfolding(crate::specs::Sinks::answer_by, crate::specs::Sinks::left_by))]
+fn finish(res: &mut [u8], counts: Counts) -> Answer
     ensures { (result ≡ answer_by counts (length res.old / 2))
         × (res.new ≡ left_by counts res.old) }
 {
     if counts.least < NO_RECORD {
-        return refuse(res, records::refusal(9, counts.least));
+        return refuse(res, Refusal::Bindings(counts.least));
     }
     if res.len() / 2 < counts.used {
-        return refuse(res, records::refusal(11, 0));
+        return refuse(res, Refusal::ResultRoom);
     }
     slots::clear_from(res, 2 * counts.used);
-    records::Answer {
+    Answer {
         code: 0,
         place: 0,
         used: counts.used as u64,
@@ -486,63 +417,44 @@ fn finish(res: &mut [u8], counts: Counts) -> records::Answer
     }
 }
 
-// A count, or where it stops (Rule 7.7).
-fn capped(count: usize) -> u64
-    ensures { result ≡ min count most_counted }
-{
-    if count < MOST_COUNTED {
-        count as u64
-    } else {
-        MOST_COUNTED as u64
-    }
-}
-
 // Refusal 9, or what was counted.
-fn measured(counts: Counts) -> records::Answer
+#[tactic(auto, unfolding(crate::specs::Sinks::measure_by))]
+fn measured(counts: Counts) -> Answer
     ensures { result ≡ measure_by counts }
 {
     if counts.least < NO_RECORD {
-        return records::refusal(9, counts.least);
+        return Answer::from(Refusal::Bindings(counts.least));
     }
-    records::Answer {
+    Answer {
         code: 0,
         place: 0,
-        used: capped(counts.used),
-        readings: capped(counts.readings),
+        used: counts.used.min(MOST_COUNTED) as u64,
+        readings: counts.readings.min(MOST_COUNTED) as u64,
         peak: 0,
     }
 }
 
 // The start-by-start pass over the bytes of a pattern and a block (Rule 7.6), with the refusals of Rule 8.16. No code
 // looks for 13: a reading's records rise, so it never binds one again.
-pub fn start_by_start(pattern: &[u8], block: &[u8], res: &mut [u8]) -> records::Answer
+pub fn start_by_start(pattern: &[u8], block: &[u8], res: &mut [u8]) -> Answer
     ensures { StartByStartCall pattern.now block.now (length res.old) result
         res.new }
 {
-    let checked = patterns::check_pattern(pattern);
-    if checked.code != 0 {
-        return refuse(res, records::refusal(checked.code, checked.place));
+    match accepted(pattern, block) {
+        Ok(p) => {
+            let counts = pass(p, block, 0, res);
+            finish(res, counts)
+        }
+        Err(refusal) => refuse(res, refusal),
     }
-    let input = records::check_block(block);
-    if input.code != 0 {
-        return refuse(res, input);
-    }
-    let counts = pass(checked.pattern, block, 0, res);
-    finish(res, counts)
 }
 
 // What the start-by-start pass would count, over no result (Rule 7.7).
-pub fn measure(pattern: &[u8], block: &[u8]) -> records::Answer
+pub fn measure(pattern: &[u8], block: &[u8]) -> Answer
     ensures { MeasureCall pattern.now block.now result }
 {
-    let checked = patterns::check_pattern(pattern);
-    if checked.code != 0 {
-        return records::refusal(checked.code, checked.place);
+    match accepted(pattern, block) {
+        Ok(p) => measured(pass(p, block, MOST_COUNTED, &mut [])),
+        Err(refusal) => Answer::from(refusal),
     }
-    let input = records::check_block(block);
-    if input.code != 0 {
-        return input;
-    }
-    let mut none = [0u8; 1];
-    measured(pass(checked.pattern, block, MOST_COUNTED, &mut none[0..0]))
 }

@@ -1,15 +1,9 @@
 -- The numbers that stand for states, fresh or not: the state that each stands for, and the variables that leave it.
 -- Assumes nothing.
-use mathlib.Core.Path.{◌≡◌, refl, sym, ap, ap₂, subst, ◌∙◌}
-use mathlib.Core.Bool.{Bool, true, false, not, ◌&&◌}
-use mathlib.Core.List.{List}
-use mathlib.Core.Logic.{◌⊎◌, inl, inr, ⊎_elim}
-use Prim.Native.Nat.{ℕ, ◌+◌, ◌-◌, ◌^◌, ◌≤◌, ◌<◌}
-use native.Mathlib.Nat.{lt_of_lt_of_le}
-use native.Mathlib.Omega.{arith}
-use lib.Dec.{eqb}
-use lib.Pow.{pow_mono}
-use borrow.Author.Tests.{lt-ltb, le-ltb, eq-eqb, ne_eqb, eqb-true, eqb-false}
+use Rattle.std.proofs.Common.{◌≡◌, refl, sym, ap, ap₂, subst, ◌∙◌, Bool, true, false, not, ◌&&◌, List, ◌⊎◌, inl, inr}
+use Rattle.std.proofs.Common.{⊎_elim, ℕ, ◌+◌, ◌-◌, ◌^◌, ◌≤◌, ◌<◌, lt_of_lt_of_le, arith, eqb, pow_mono, lt-ltb, le-ltb}
+use Rattle.std.proofs.Common.{eq-eqb, ne_eqb, eqb-true}
+use borrow.Author.Tests.{eqb-false}
 use Rattle.numbers.specs.Bits.{bit, disjoint}
 use Rattle.numbers.proofs.Cases.{by-test, by_order, both}
 use Rattle.numbers.proofs.Bits.{mask_bound, mask-inside}
@@ -30,18 +24,6 @@ state-plain x l = ap (λ (t : Bool). elim t [ true ↦ x | false ↦ x - fresh_m
 pub state-fresh : (x : ℕ) → fresh_mark ≤ x → state_of x ≡ x - fresh_mark
 unfolding state_of
 state-fresh x l = ap (λ (t : Bool). elim t [ true ↦ x | false ↦ x - fresh_mark ]) (le-ltb x fresh_mark l)
-
--- ## The order mark
-
-pub calm-not : (plan : List ℕ) (state v : ℕ) → leaves_by plan state v ≡ false → is_calm plan state v ≡ false
-unfolding is_calm
-calm-not plan state v e = ap (λ (t : Bool). t && not (disjoint state (marks_in plan v))) e
-
-pub calm-leaves :
-    (plan : List ℕ) (state v : ℕ) → leaves_by plan state v ≡ true
-    → is_calm plan state v ≡ not (disjoint state (marks_in plan v))
-unfolding is_calm
-calm-leaves plan state v e = ap (λ (t : Bool). t && not (disjoint state (marks_in plan v))) e
 
 module _ (plan : List ℕ) (n : ℕ) where
   -- ## What leaves

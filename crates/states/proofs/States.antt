@@ -1,59 +1,20 @@
 -- The list of states as it grows: a state put into it, one that is linked variable by variable, and all of them.
 -- Assumes nothing.
-use mathlib.Core.Path.{◌≡◌, refl, sym, ap, subst, ◌∙◌}
-use mathlib.Core.Bool.{Bool, true, false, not, ◌&&◌}
-use mathlib.Core.List.{List}
-use mathlib.Core.Logic.{⊎_elim}
-use Prim.Native.Nat.{ℕ, ◌+◌, ◌-◌, ◌*◌, ◌^◌, ◌≤◌, ◌<◌}
-use native.Mathlib.Omega.{arith}
-use lib.Bits.{bit_or}
-use lib.Dec.{eqb}
-use lib.ListN.{length, get_or, set, replicate, length-set, length-replicate}
-use lib.Seq.{get_or-set_same, get_or-set_other}
-use borrow.Author.Tests.{eqb-true, eqb-false}
+use Rattle.std.proofs.Common.{◌≡◌, sym, ap, subst, ◌∙◌, Bool, true, false, not, ◌&&◌, List, ⊎_elim, ℕ, ◌+◌, ◌-◌, ◌*◌}
+use Rattle.std.proofs.Common.{◌^◌, ◌≤◌, ◌<◌, max, Some, arith, bit_or, eqb, length, get_or, set, length-set}
+use Rattle.std.proofs.Common.{get_or-set_same, get_or-set_other, eqb-true}
+use borrow.Author.Tests.{eqb-false}
+use Rattle.std.proofs.lemmas.List.{set-get_or}
 use Rattle.numbers.specs.Numbers.{one_if}
 use Rattle.numbers.specs.Bits.{bit, IsLowestBit}
 use Rattle.numbers.proofs.Cases.{by-test, by_order}
-use Rattle.numbers.proofs.Bits.{bit-zero, bit-without, or-weight-bound}
+use Rattle.numbers.proofs.Bits.{bit-without, or-weight-bound}
 use Rattle.patterns.specs.Patterns.{most_variables}
-use Rattle.automaton.proofs.Membership.{clash}
 use Rattle.reach.proofs.MaskInTurn.{low_bits}
 use Rattle.states.specs.States.{most_states, link_at, most_links, fresh_mark, fresh_of, state_of, leaves_from, Stands}
 use Rattle.states.specs.States.{Put, PutFresh, Leads, Linked, Listed}
 use Rattle.states.specs.States.Stands.{plain, twin}
 use Rattle.states.proofs.Fresh.{fresh-cases, state-plain, state-fresh, leaves-bound}
-
--- ## One state
-
--- a state that the list has at a place below the count, or that stands behind them
-pub put-at :
-    (old : List ℕ) (count state at : ℕ) → length old ≡ most_states → at < most_states → at ≤ count
-    → (at < count → get_or old at 0 ≡ state)
-    → Put old count state (set old at state) at
-put-at old count state at size l up_to is =
-    record {
-      size = length-set old at state ∙ size;
-      up_to = up_to;
-      kept = λ i m.
-          by-test (eqb at i)
-          (λ e.
-          let z = eqb-true at i e in
-          subst (λ (x : ℕ). get_or (set old at state) x 0 ≡ get_or old x 0) z
-          (get_or-set_same old at state 0 (omega arith) ∙ sym (is (omega arith))))
-          (λ e. let z = eqb-false at i e in get_or-set_other old at i state 0 (λ q. z (sym q)));
-      here = λ m. get_or-set_same old at state 0 (omega arith);
-    }
-
-pub put-none :
-    (old : List ℕ) (count state at : ℕ) → length old ≡ most_states → at ≡ most_states → at ≤ count
-    → Put old count state old at
-put-none old count state at size e up_to =
-    record {
-      size = size;
-      up_to = up_to;
-      kept = λ i m. refl;
-      here = λ m. absurd (omega arith);
-    }
 
 -- ## A fresh state
 
@@ -67,36 +28,24 @@ stands-kept old new count i kept l (twin b e small is) =
     twin b e (omega arith) (omega arith)
 
 module _ (plan : List ℕ) (n : ℕ) (old : List ℕ) (count state : ℕ) (mid : List ℕ) (at : ℕ)
-    (put : Put old count state mid at) (small : state < fresh_mark) where
-  -- there is no room
-  pub fresh-none : PutFresh plan n old count state mid most_states
-  fresh-none =
-      record {
-        size = put.size;
-        up_to = omega arith;
-        kept = put.kept;
-        here = λ l. absurd (omega arith);
-        stands = λ l. absurd (omega arith);
-      }
-
-  stands-put : at < most_states → ((i : ℕ) → i < count → Stands old i) → (i : ℕ) → i ≤ at → Stands mid i
-  stands-put inside stands i l =
+    (put : Put old count state mid (Some at)) (small : state < fresh_mark) where
+  stands-put : ((i : ℕ) → i < count → Stands old i) → (i : ℕ) → i ≤ at → Stands mid i
+  stands-put stands i l =
       by_order i count
       (λ m. stands-kept old mid count i put.kept m (stands i m))
       (λ m.
-      let up = put.up_to in
+      let up = put.here.1 in
       let z : at ≡ i = omega arith in
-      let e = ap (λ (x : ℕ). get_or mid x 0) (sym z) ∙ put.here inside in
+      let e = ap (λ (x : ℕ). get_or mid x 0) (sym z) ∙ put.here.2 in
       plain (omega arith))
 
   -- the state is not listed fresh
-  pub fresh-alone : at ≤ most_states → fresh_of plan n state ≡ state → PutFresh plan n old count state mid at
-  fresh-alone most e =
+  pub fresh-alone : fresh_of plan n state ≡ state → PutFresh plan n old count state mid (Some at)
+  fresh-alone e =
       record {
         size = put.size;
-        up_to = most;
         kept = put.kept;
-        here = λ l. put.here l ∙ sym e;
+        here = (put.here.0, put.here.2 ∙ sym e);
         stands = stands-put;
       }
 
@@ -105,20 +54,20 @@ module _ (plan : List ℕ) (n : ℕ) (old : List ℕ) (count state : ℕ) (mid :
     marked = ⊎_elim (λ e. absurd (other e.1)) (λ e. e) (fresh-cases plan n state)
 
     -- it stands behind the others
-    pub fresh-behind :
-        count ≤ at + 1 → PutFresh plan n old count state (set mid (at + 1) (fresh_of plan n state)) (at + 1)
-    fresh-behind up =
+    fresh-new :
+        count ≤ at + 1
+        → PutFresh plan n old count state (set mid (at + 1) (fresh_of plan n state)) (Some (at + 1))
+    fresh-new up =
         let size = put.size in
         record {
           size = length-set mid (at + 1) (fresh_of plan n state) ∙ put.size;
-          up_to = omega arith;
           kept = λ i l. same i (omega arith) ∙ put.kept i l;
-          here = λ l. new;
-          stands = λ l stands i m.
+          here = (inside, new);
+          stands = λ stands i m.
               by_order i (at + 1)
-              (λ b. stands-kept mid (set mid (at + 1) (fresh_of plan n state)) (at + 1) i same b (stands-put (omega arith) stands i (omega arith)))
+              (λ b. stands-kept mid (set mid (at + 1) (fresh_of plan n state)) (at + 1) i same b (stands-put stands i (omega arith)))
               (λ b.
-              let before = same at (omega arith) ∙ put.here (omega arith) in
+              let before = same at (omega arith) ∙ put.here.2 in
               let mark = marked in
               let z : at + 1 ≡ i = omega arith in
               let here = sym (ap (λ (x : ℕ). get_or (set mid (at + 1) (fresh_of plan n state)) x 0) z) ∙ new in
@@ -132,16 +81,28 @@ module _ (plan : List ℕ) (n : ℕ) (old : List ℕ) (count state : ℕ) (mid :
         new = let size = put.size in get_or-set_same mid (at + 1) (fresh_of plan n state) 0 (omega arith)
 
     -- it is there already
-    pub fresh-there :
-        at + 1 < count → get_or mid (at + 1) 0 ≡ fresh_of plan n state → PutFresh plan n old count state mid (at + 1)
+    fresh-there :
+        at + 1 < count → get_or mid (at + 1) 0 ≡ fresh_of plan n state
+        → PutFresh plan n old count state mid (Some (at + 1))
     fresh-there l e =
         record {
           size = put.size;
-          up_to = omega arith;
           kept = put.kept;
-          here = λ m. e;
-          stands = λ m stands i b. stands-kept old mid count i put.kept (omega arith) (stands i (omega arith));
+          here = (inside, e);
+          stands = λ stands i b. stands-kept old mid count i put.kept (omega arith) (stands i (omega arith));
         }
+
+    -- it is written there, where another does not stand there
+    pub fresh-behind :
+        (at + 1 < count → get_or mid (at + 1) 0 ≡ fresh_of plan n state)
+        → PutFresh plan n old count state (set mid (at + 1) (fresh_of plan n state)) (Some (at + 1))
+    fresh-behind e =
+        by_order (at + 1) count
+        (λ l.
+        subst (λ (x : List ℕ). PutFresh plan n old count state x (Some (at + 1)))
+        (sym (set-get_or mid (at + 1) 0) ∙ ap (set mid (at + 1)) (e l))
+        (fresh-there l (e l)))
+        fresh-new
 
 -- the state at a place is one
 pub stands-state : (states : List ℕ) (i : ℕ) → Stands states i → state_of (get_or states i 0) < fresh_mark
@@ -192,38 +153,6 @@ pub record Linking (plan : List ℕ) (n : ℕ) (states links : List ℕ) (count 
   pub leads : (v : ℕ) → bit leave v ≡ true → bit rest v ≡ false → Leads plan n states' links' more at v
 
 module _ (plan : List ℕ) (n : ℕ) (states links : List ℕ) (count at leave : ℕ) where
-  pub linking-none :
-      length states ≡ most_states → length links ≡ most_links → count ≤ most_states → leave < 2 ^ most_variables
-      → ((i : ℕ) → i < count → Stands states i)
-      → Linking plan n states links count at leave states links count leave
-  linking-none size room few small stands =
-      record {
-        size = size;
-        room = room;
-        from = omega arith;
-        few = few;
-        small = small;
-        kept = λ i l. refl;
-        others = λ i l. refl;
-        stands = stands;
-        leads = λ v t f. clash t f;
-      }
-
-  pub linked-all :
-      (states' links' : List ℕ) (more rest : ℕ) → rest ≡ 0
-      → Linking plan n states links count at leave states' links' more rest
-      → Linked plan n states links count at leave states' links' more
-  linked-all states' links' more rest e l =
-      record {
-        size = l.size;
-        room = l.room;
-        from = l.from;
-        kept = l.kept;
-        others = l.others;
-        stands = l.stands;
-        leads = λ v t. l.leads v t (ap (λ (x : ℕ). bit x v) e ∙ bit-zero v);
-      }
-
   module _ (states₁ links₁ : List ℕ) (more rest v from : ℕ)
       (l : Linking plan n states links count at leave states₁ links₁ more rest) (low : IsLowestBit 64 rest v)
       (known : at < count)
@@ -240,22 +169,22 @@ module _ (plan : List ℕ) (n : ℕ) (states links : List ℕ) (count at leave :
 
     -- one variable more
     pub linking-more :
-        (states₂ : List ℕ) (to more₂ : ℕ) → PutFresh plan n states₁ more (bit_or from (2 ^ v)) states₂ to
-        → to < most_states
+        (states₂ : List ℕ) (to more₂ : ℕ) → PutFresh plan n states₁ more (bit_or from (2 ^ v)) states₂ (Some to)
         → at ≤ to
-        → more ≤ more₂ → to + 1 ≤ more₂ → ((m : ℕ) → more ≤ m → to + 1 ≤ m → more₂ ≤ m) → more₂ ≤ most_states
+        → more₂ ≡ max more (to + 1)
         → Linking plan n states links count at leave states₂ (set links₁ (link_at at v) to) more₂
         (rest - one_if (bit rest v) * 2 ^ v)
-    linking-more states₂ to more₂ put inside up a b least few =
+    linking-more states₂ to more₂ put up larger =
         let begun = l.from in
         let most = l.few in
         let size = l.room in
         let small = l.small in
+        let inside = put.here.0 in
         record {
           size = put.size;
           room = length-set links₁ (link_at at v) to ∙ l.room;
           from = omega arith;
-          few = few;
+          few = omega arith;
           small = omega arith;
           kept = kept;
           others = λ place m.
@@ -263,10 +192,7 @@ module _ (plan : List ℕ) (n : ℕ) (states links : List ℕ) (count at leave :
           stands = λ i m.
               by_order i more
               (λ d. stands-kept states₁ states₂ more i put.kept d (l.stands i d))
-              (λ d.
-              by_order to i
-              (λ f. let z = least i d (omega arith) in absurd (omega arith))
-              (λ f. put.stands inside l.stands i f));
+              (λ d. put.stands l.stands i (omega arith));
           leads = λ u t f. by-test (eqb v u) (here u) (there u t f);
         }
       where
@@ -284,7 +210,7 @@ module _ (plan : List ℕ) (n : ℕ) (states links : List ℕ) (count at leave :
             (get_or-set_same links₁ (link_at at v) to 0 (omega arith))
             (omega arith)
             up
-            (put.here inside ∙ ap (λ (x : ℕ). fresh_of plan n (bit_or x (2 ^ v))) (is ∙ ap state_of (sym (kept at known)))))
+            (put.here.1 ∙ ap (λ (x : ℕ). fresh_of plan n (bit_or x (2 ^ v))) (is ∙ ap state_of (sym (kept at known)))))
 
         there :
             (u : ℕ) → bit leave u ≡ true → bit (rest - one_if (bit rest v) * 2 ^ v) u ≡ false → eqb v u ≡ false
@@ -294,32 +220,13 @@ module _ (plan : List ℕ) (n : ℕ) (states links : List ℕ) (count at leave :
             let z : bit rest u ≡ false =
             sym (bit-without rest most_variables v u l.small ∙ ap (λ (x : Bool). not x && bit rest u) e) ∙ f in
             let other = eqb-false v u e in
-            leads-kept plan n states₁ links₁ more at u states₂ (set links₁ (link_at at v) to) more₂ (l.leads u t z) (omega arith) a
+            leads-kept plan n states₁ links₁ more at u states₂ (set links₁ (link_at at v) to) more₂ (l.leads u t z) (omega arith) (omega arith)
             put.kept
             (get_or-set_other links₁ (link_at at v) (link_at at u) to 0 (λ q. other (omega arith)))
 
 -- ## All of them
 
 module _ (plan : List ℕ) (n : ℕ) (few : n ≤ most_variables) where
-  pub listed-none :
-      (states leaves links : List ℕ) → states ≡ replicate most_states 0 → leaves ≡ replicate most_states 0
-      → links ≡ replicate most_links 0
-      → Listed plan n states leaves links 1 0
-  listed-none states leaves links a b d =
-      record {
-        size = ap length a ∙ length-replicate {A = ℕ} most_states 0;
-        wide = ap length b ∙ length-replicate {A = ℕ} most_states 0;
-        room = ap length d ∙ length-replicate {A = ℕ} most_links 0;
-        some = omega arith;
-        few = omega arith;
-        first = ap (λ (x : List ℕ). get_or x 0 0) a;
-        stands = λ i l.
-            let z : 0 ≡ i = omega arith in
-            subst (Stands states) z (let e = ap (λ (x : List ℕ). get_or x 0 0) a in plain (omega arith));
-        leaving = λ i l. absurd (omega arith);
-        leads = λ i v l. absurd (omega arith);
-      }
-
   -- one state more is linked
   pub listed_more :
       (states leaves links : List ℕ) (count at leave : ℕ) (states' links' : List ℕ) (more : ℕ)

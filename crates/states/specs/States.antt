@@ -1,6 +1,6 @@
 -- The states that readings can be in, listed, each with the variables that leave it and the states that they lead to.
 -- No promise of a public call names this file.
-use Rattle.std.specs.Prelude.{◌≡◌, Bool, true, false, not, ◌&&◌, List, ℕ, suc, ◌+◌, ◌-◌, ◌*◌, ◌^◌, ◌≤◌, ◌<◌, eqb, ltb, length, get_or}
+use Rattle.std.specs.Prelude.{◌≡◌, Bool, true, false, not, ◌&&◌, List, ℕ, suc, ◌+◌, ◌-◌, ◌*◌, ◌^◌, ◌≤◌, ◌<◌, eqb, ltb, length, get_or, Option, None, IfSome}
 use Rattle.std.specs.Int.Bits.{bit_or}
 use Rattle.numbers.specs.Bits.{bit, mask, disjoint}
 use Rattle.patterns.specs.Patterns.{most_variables}
@@ -59,20 +59,21 @@ pub data Stands (states : List ℕ) (i : ℕ) : Type 0 where
 
 -- ## The list
 
--- a state has place `at` in a list of so many states, and the list has it now where there is room
-pub record Put (old : List ℕ) (count state : ℕ) (new : List ℕ) (at : ℕ) : Type 0 where
+-- a state has a place in a list of so many states, and the list has it now; none where there is no room
+pub record Put (old : List ℕ) (count state : ℕ) (new : List ℕ) (place : Option ℕ) : Type 0 where
   pub size : length new ≡ most_states
-  pub up_to : at ≤ count
   pub kept : (i : ℕ) → i < count → get_or new i 0 ≡ get_or old i 0
-  pub here : at < most_states → get_or new at 0 ≡ state
+  pub full : place ≡ None → most_states ≤ count
+  pub here : IfSome place (λ at. (at < most_states) × (at ≤ count) × (get_or new at 0 ≡ state))
 
 -- the same of a state that is fresh, with its state right before it
-pub record PutFresh (plan : List ℕ) (n : ℕ) (old : List ℕ) (count state : ℕ) (new : List ℕ) (at : ℕ) : Type 0 where
-  pub size : length new ≡ most_states
-  pub up_to : at ≤ most_states
-  pub kept : (i : ℕ) → i < count → get_or new i 0 ≡ get_or old i 0
-  pub here : at < most_states → get_or new at 0 ≡ fresh_of plan n state
-  pub stands : at < most_states → ((i : ℕ) → i < count → Stands old i) → (i : ℕ) → i ≤ at → Stands new i
+pub record PutFresh (plan : List ℕ) (n : ℕ) (old : List ℕ) (count state : ℕ) (new : List ℕ) (place : Option ℕ) : Type 0
+  where
+    pub size : length new ≡ most_states
+    pub kept : (i : ℕ) → i < count → get_or new i 0 ≡ get_or old i 0
+    pub here : IfSome place (λ at. (at < most_states) × (get_or new at 0 ≡ fresh_of plan n state))
+    pub stands :
+        IfSome place (λ at. ((i : ℕ) → i < count → Stands old i) → (i : ℕ) → i ≤ at → Stands new i)
 
 -- the link by v of the state at a place leads to the state with v, fresh, which stands no earlier
 pub record Leads (plan : List ℕ) (n : ℕ) (states links : List ℕ) (count at v : ℕ) : Type 0 where

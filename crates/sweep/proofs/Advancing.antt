@@ -1,11 +1,5 @@
 -- The latest starts of all states as a record moves them on, state by state from the last. Assumes nothing.
-use mathlib.Core.Path.{◌≡◌, refl, sym, ap, subst, ◌∙◌}
-use mathlib.Core.Bool.{Bool, true}
-use mathlib.Core.List.{List}
-use Prim.Native.Nat.{ℕ, suc, ◌≤◌, ◌<◌}
-use native.Mathlib.Omega.{arith}
-use lib.Bits.{bit_and}
-use lib.ListN.{get_or}
+use Rattle.std.proofs.Common.{◌≡◌, sym, ap, subst, ◌∙◌, Bool, true, List, ℕ, suc, ◌≤◌, ◌<◌, arith, bit_and, get_or}
 use Rattle.numbers.specs.Bits.{bit}
 use Rattle.numbers.proofs.Cases.{by_order}
 use Rattle.numbers.proofs.Bits.{bit-zero}
@@ -21,16 +15,6 @@ use Rattle.sweep.specs.Starts.Came.{stayed, moved}
 use Rattle.sweep.proofs.Starts.{and_right, same_place}
 
 module _ (old leaves links : List ℕ) (count can low : ℕ) (tight : Bool) where
-  pub advanced-none : Advanced old leaves links count can low tight old count
-  advanced-none =
-      record {
-        size = refl;
-        before = λ k at a b. refl;
-        stays = λ k at a b none. omega arith;
-        here = λ k at v a b known. absurd (omega arith);
-        came = λ k at a b late. stayed refl (λ t known. absurd (omega arith));
-      }
-
   module _ (mid : List ℕ) (at done : ℕ) (e : done ≡ suc at) (known : at < count)
       (l : Advanced old leaves links count can low tight mid done) where
     -- a state that no variable leaves

@@ -1,16 +1,11 @@
 -- Each of the latest starts is that of a reading that comes by own conditions and the order mark alone, record by
 -- record, and so where no condition joins variables one takes a binding too many at the record at which the sweep ends.
 -- Assumes nothing.
-use mathlib.Core.Path.{◌≡◌, refl, sym, ap, ap₂, subst, ◌∙◌}
-use mathlib.Core.Bool.{Bool, true, ◌&&◌}
-use mathlib.Core.List.{List}
-use Prim.Native.Nat.{ℕ, suc, ◌+◌, ◌-◌, ◌^◌, ◌≤◌, ◌<◌}
-use native.Mathlib.Nat.{lt_of_le_of_lt}
-use native.Mathlib.Numerals.{add-one}
-use native.Mathlib.Omega.{arith}
-use lib.Bits.{bit_and, bit_or, and_le_r}
-use lib.ListN.{length, get_or, set, replicate, get_or-replicate}
-use lib.Seq.{get_or-set_same, get_or-set_other}
+use Rattle.std.proofs.Common.{◌≡◌, refl, sym, ap, ap₂, subst, ◌∙◌, Bool, true, ◌&&◌, List, ℕ, suc, ◌+◌, ◌-◌, ◌^◌, ◌≤◌}
+use Rattle.std.proofs.Common.{◌<◌, lt_of_le_of_lt, add-one, arith, bit_and, bit_or, length, get_or, set, replicate}
+use Rattle.std.proofs.Common.{get_or-set_same, get_or-set_other}
+use lib.Bits.{and_le_r}
+use lib.ListN.{get_or-replicate}
 use Rattle.numbers.specs.Bits.{bit}
 use Rattle.numbers.proofs.Cases.{by_order}
 use Rattle.numbers.proofs.Bits.{bit-zero, bit-and}

@@ -1,14 +1,6 @@
 -- Readings whose latest binding is of the cycle at hand, and the steps that are theirs. Assumes nothing.
-use mathlib.Core.Path.{◌≡◌, ap₂}
-use mathlib.Core.Bool.{Bool, true, false, ◌&&◌}
-use mathlib.Core.List.{List}
-use Prim.Native.Nat.{ℕ, ◌^◌, ◌≤◌, ◌<◌}
-use native.Mathlib.Nat.{lt_of_lt_of_le}
-use native.Mathlib.Omega.{arith}
-use lib.Bits.{bit_or}
-use lib.Dec.{eqb, ltb}
-use lib.Pow.{pow_mono}
-use borrow.Author.Tests.{lt-ltb, ltb-true, eq-eqb, eqb-true}
+use Rattle.std.proofs.Common.{◌≡◌, ap₂, Bool, true, false, ◌&&◌, List, ℕ, ◌^◌, ◌≤◌, ◌<◌, lt_of_lt_of_le, arith, bit_or}
+use Rattle.std.proofs.Common.{eqb, ltb, pow_mono, lt-ltb, ltb-true, eq-eqb, eqb-true}
 use Rattle.numbers.specs.Bits.{bit, disjoint}
 use Rattle.numbers.proofs.Cases.{by-test, by_order, both}
 use Rattle.numbers.proofs.Bits.{or-weight-bound}

@@ -1,10 +1,7 @@
 -- The sweep from record to record, and what it comes to. Assumes nothing.
-use mathlib.Core.Path.{◌≡◌, refl, sym, ap, subst, ◌∙◌}
-use mathlib.Core.Bool.{Bool, true, false}
-use mathlib.Core.List.{List}
-use Prim.Native.Nat.{ℕ, ◌+◌, ◌≤◌, ◌<◌}
-use native.Mathlib.Omega.{arith}
-use lib.ListN.{length, replicate, length-replicate}
+use Rattle.std.proofs.Common.{◌≡◌, refl, sym, ap, subst, ◌∙◌, Bool, true, false, List, ℕ, ◌+◌, ◌≤◌, ◌<◌, arith, length}
+use Rattle.std.proofs.Common.{replicate}
+use lib.ListN.{length-replicate}
 use Rattle.numbers.proofs.Cases.{by_order}
 use Rattle.records.specs.Records.{record_at, record_count, event_kind}
 use Rattle.records.specs.Blocks.{most_records}
@@ -30,9 +27,6 @@ pub record Going (plan bytes : List ℕ) (n c duration : ℕ) (tight : Bool) (st
   pub past : (i m : ℕ) → i < low → j ≤ m → m < record_count bytes → Past bytes duration i m
   pub up_to : (m : ℕ) → j ≤ m → m < record_count bytes → cycle ≤ (record_at bytes m).time
 
-pub floor-none : (plan bytes : List ℕ) (n c duration : ℕ) → Floor plan bytes n c duration 0
-floor-none plan bytes n c duration = record { few = omega arith; below = λ p o d x found. omega arith }
-
 module _ (plan bytes : List ℕ) (n c duration : ℕ) (usable : Usable plan bytes n c) (tight : Bool)
     (states leaves links : List ℕ) (count : ℕ) where
   pub going-none :
@@ -57,9 +51,6 @@ module _ (plan bytes : List ℕ) (n c duration : ℕ) (usable : Usable plan byte
 
     pub going-floor : j ≤ most_records → Floor plan bytes n c duration j
     going-floor l = floor-of plan bytes n c duration usable tight g.free j l g.kept.few
-
-    pub going-past : j < record_count bytes → (i : ℕ) → i < low → Past bytes duration i j
-    going-past inside i l = g.past i j l (omega arith) inside
 
     -- a gap
     pub going-gap :

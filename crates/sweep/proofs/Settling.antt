@@ -1,33 +1,16 @@
 -- The latest starts as a new cycle begins: those of a fresh state become those of the state before it. Assumes nothing.
-use mathlib.Core.Path.{◌≡◌, refl, sym, ap, subst, ◌∙◌}
-use mathlib.Core.List.{List}
-use mathlib.Core.Logic.{◌⊎◌, inl, inr, ⊎_elim}
-use Prim.Native.Nat.{ℕ, suc, ◌+◌, ◌≤◌, ◌<◌}
-use native.Mathlib.Omega.{arith}
-use lib.Dec.{eqb}
-use lib.ListN.{length, get_or, set, length-set}
-use lib.Seq.{get_or-set_same, get_or-set_other}
-use borrow.Author.Tests.{eqb-true, eqb-false}
+use Rattle.std.proofs.Common.{◌≡◌, sym, ap, subst, ◌∙◌, List, inl, inr, ⊎_elim, ℕ, suc, ◌+◌, ◌≤◌, ◌<◌, max, arith, eqb}
+use Rattle.std.proofs.Common.{length, get_or, set, length-set, get_or-set_same, get_or-set_other, eqb-true}
+use borrow.Author.Tests.{eqb-false}
 use Rattle.numbers.proofs.Cases.{by-test, by_order}
 use Rattle.rule.specs.Promises.{most_bindings}
 use Rattle.states.specs.States.{fresh_mark}
 use Rattle.sweep.specs.Starts.{row_places, place_of, RowFolded, FreshFolded, Settles, Settled}
 use Rattle.sweep.specs.Starts.FreshFolded.{calm, fresh}
 use Rattle.sweep.specs.Starts.Settles.{empty, stays, folds}
-use Rattle.sweep.proofs.Starts.{same_place}
+use Rattle.sweep.proofs.Starts.{same_place, max-one}
 
 -- ## One state
-
-pub folded-none : (old : List ℕ) (b : ℕ) → RowFolded old b old 0
-folded-none old b =
-    record {
-      size = refl;
-      above = λ k l. absurd (omega arith);
-      here = λ k l. absurd (omega arith);
-      only = λ k l. absurd (omega arith);
-      gone = λ k l. absurd (omega arith);
-      others = λ place f g. refl;
-    }
 
 module _ (old : List ℕ) (b : ℕ) (mid : List ℕ) (done p q x : ℕ) (f : RowFolded old b mid done) (room : done < row_places)
     (e : p ≡ place_of done b) (g : q ≡ place_of done (suc b)) (inside : q < length mid) where
@@ -53,11 +36,9 @@ module _ (old : List ℕ) (b : ℕ) (mid : List ℕ) (done p q x : ℕ) (f : Row
   unfolding new
   other place a c = get_or-set_other (set mid p x) q place 0 0 c ∙ get_or-set_other mid p place x 0 a
 
-  pub folded_more :
-      get_or mid p 0 ≤ x → get_or mid q 0 ≤ x → (x ≡ get_or mid p 0) ⊎ (x ≡ get_or mid q 0)
-      → RowFolded old b (set (set mid p x) q 0) (done + 1)
+  pub folded_more : x ≡ max (get_or mid p 0) (get_or mid q 0) → RowFolded old b (set (set mid p x) q 0) (done + 1)
   unfolding new
-  folded_more a c cases =
+  folded_more larger =
       record {
         size = length-set (set mid p x) q 0 ∙ length-set mid p x ∙ f.size;
         above = λ k l.
@@ -86,7 +67,7 @@ module _ (old : List ℕ) (b : ℕ) (mid : List ℕ) (done p q x : ℕ) (f : Row
             ⊎_elim
             (λ h. inl (at ∙ h ∙ had-into ∙ ap (λ (w : ℕ). get_or old w 0) z))
             (λ h. inr (at ∙ h ∙ had-behind ∙ ap (λ (w : ℕ). get_or old w 0) y))
-            cases);
+            (max-one (get_or mid p 0) (get_or mid q 0) x larger));
         gone = λ k l.
             by_order k done
             (λ m. other (place_of k (suc b)) (λ z. omega arith) (λ z. omega arith) ∙ f.gone k m)
@@ -99,16 +80,6 @@ module _ (old : List ℕ) (b : ℕ) (mid : List ℕ) (done p q x : ℕ) (f : Row
       }
 
 -- ## All of them
-
-pub settled-none : (old states : List ℕ) → Settled old states old 1
-settled-none old states =
-    record {
-      size = refl;
-      ahead = λ k at a l. refl;
-      above = λ k at a l. omega arith;
-      here = λ k at a l. absurd (omega arith);
-      only = λ k at a. stays refl (λ l m. absurd (omega arith));
-    }
 
 module _ (old states mid : List ℕ) (b done : ℕ) (e : done ≡ suc b) (s : Settled old states mid done) where
   settles-later :
@@ -189,5 +160,5 @@ module _ (old states mid : List ℕ) (b done : ℕ) (e : done ≡ suc b) (s : Se
 
   -- one state more
   pub settled-more : (new : List ℕ) → FreshFolded mid states b new → Settled old states new (done + 1)
-  settled-more new (calm plain is) = subst (λ (x : List ℕ). Settled old states x (done + 1)) (sym is) (settled-calm plain)
-  settled-more new (fresh is f) = settled-fresh new is f
+  settled-more after (calm plain is) = subst (λ (x : List ℕ). Settled old states x (done + 1)) (sym is) (settled-calm plain)
+  settled-more after (fresh is f) = settled-fresh after is f

@@ -1,29 +1,25 @@
 -- The latest starts of one state as a record moves them on: those that are handed on, the state that is left, and the
 -- states that it leads to. Assumes nothing.
-use mathlib.Core.Path.{◌≡◌, refl, sym, ap, subst, ◌∙◌}
-use mathlib.Core.Bool.{Bool, true, false, not, ◌&&◌}
-use mathlib.Core.List.{List}
-use mathlib.Core.Logic.{◌⊎◌, inl, inr, ⊎_elim}
-use Prim.Native.Nat.{ℕ, suc, ◌+◌, ◌-◌, ◌*◌, ◌^◌, ◌≤◌, ◌<◌}
-use native.Mathlib.Omega.{arith}
-use lib.Bits.{bit_and}
-use lib.Dec.{eqb}
-use lib.ListN.{length, get_or, set, replicate, length-set, length-replicate}
-use lib.Pow.{pow_pos}
-use lib.Seq.{get_or-set_same, get_or-set_other}
-use borrow.Author.Tests.{eqb-true, eqb-false}
+use Rattle.std.proofs.Common.{◌≡◌, sym, ap, subst, ◌∙◌, Bool, true, false, not, ◌&&◌, List, ◌⊎◌, inl, inr, ⊎_elim}
+use Rattle.std.proofs.Common.{ℕ, suc, ◌+◌, ◌-◌, ◌*◌, ◌^◌, ◌≤◌, ◌<◌, max, arith, bit_and, eqb, length, get_or, set}
+use Rattle.std.proofs.Common.{replicate, length-set, pow_pos, get_or-set_same, get_or-set_other, eqb-true}
+use lib.ListN.{length-replicate}
+use borrow.Rule.Slice.PartMut.{put_mid}
+use borrow.Author.Tests.{eqb-false}
+use Rattle.std.proofs.lemmas.Grind.{common_steps}
+use Rattle.std.proofs.lemmas.List.{get_or-replicate}
 use Rattle.numbers.specs.Numbers.{first, one_if}
 use Rattle.numbers.specs.Bits.{bit, IsLowestBit}
 use Rattle.numbers.proofs.Cases.{by-test, by_order}
 use Rattle.numbers.proofs.First.{first-fails, first_passes}
 use Rattle.numbers.proofs.Bits.{bit_high, bit-zero, bit-and, bit-without, bits-same}
 use Rattle.patterns.specs.Patterns.{most_variables}
-use Rattle.automaton.proofs.Membership.{both, clash}
+use Rattle.automaton.proofs.Membership.{both}
 use Rattle.rule.specs.Promises.{most_bindings}
 use Rattle.reach.proofs.MaskInTurn.{low_bits, rest-known}
 use Rattle.states.specs.States.{link_at}
-use Rattle.sweep.specs.Starts.{row_places, place_of, LateOnes, Cleared, RowCleared, Grown}
-use Rattle.sweep.specs.Starts.{RowRaised, Led, Spread}
+use Rattle.sweep.specs.Starts.{row_places, place_of, RowCleared, Grown}
+use Rattle.sweep.specs.Starts.{RowRaised, Led}
 use Rattle.sweep.specs.Starts.Cleared.{remains, cleared}
 use Rattle.sweep.specs.Starts.Grown.{same, grew}
 use Rattle.sweep.specs.Starts.Led.{unled, led}
@@ -66,6 +62,12 @@ same_place k a m b l r e =
     (λ f. absurd (omega arith))
     (λ f. let z : a ≡ b = omega arith in (z, omega arith)))
 
+-- ## Numbers
+
+-- the larger of two is one of them
+pub max-one : (a b x : ℕ) → x ≡ max a b → (x ≡ a) ⊎ (x ≡ b)
+max-one a b x e = by_order a b (λ l. inr (omega arith)) (λ l. inl (omega arith))
+
 -- ## The starts of a state
 
 module _ (starts : List ℕ) (low at : ℕ) where
@@ -75,90 +77,59 @@ module _ (starts : List ℕ) (low at : ℕ) where
     pub late : (k : ℕ) → k < done → low < get_or starts (place_of k at) 0 → get_or own k 0 ≡ get_or starts (place_of k at) 0
     pub out : (k : ℕ) → k < done → get_or starts (place_of k at) 0 ≤ low → get_or own k 0 ≡ 0
 
-  pub copied_none : (own : List ℕ) → own ≡ replicate row_places 0 → Copied own 0
-  copied_none own e =
-      record {
-        size = ap length e ∙ length-replicate {A = ℕ} row_places 0;
-        late = λ k l. absurd (omega arith);
-        out = λ k l. absurd (omega arith);
-      }
+-- ## A part that is filled
 
-  pub copied_all : (own : List ℕ) (done : ℕ) → row_places ≤ done → Copied own done → LateOnes starts low at own
-  copied_all own done l c =
-      record { size = c.size; late = λ k m. c.late k (omega arith); out = λ k m. c.out k (omega arith) }
+module _ (old : List ℕ) (row n : ℕ) (part : List ℕ) where
+  filled-length : length part ≡ n → row + n ≤ length old → length (put_mid row n old part) ≡ length old
+  filled-length size room = grind (arith, common_steps)
 
-  pub copied_more :
-      (own : List ℕ) (done start x : ℕ) → Copied own done → done < row_places → start ≡ get_or starts (place_of done at) 0
-      → (low < start → x ≡ start) → (start ≤ low → x ≡ 0)
-      → Copied (set own done x) (done + 1)
-  copied_more own done start x c l is late out =
-      let size = c.size in
-      let new = get_or-set_same own done x 0 (omega arith) in
-      record {
-        size = length-set own done x ∙ c.size;
-        late = λ k m.
-            by_order k done
-            (λ b h. get_or-set_other own done k x 0 (λ q. omega arith) ∙ c.late k b h)
-            (λ b.
-            let z : done ≡ k = omega arith in
-            subst (λ (y : ℕ). low < get_or starts (place_of y at) 0 → get_or (set own done x) y 0 ≡ get_or starts (place_of y at) 0) z
-            (λ h. new ∙ late (omega arith) ∙ is));
-        out = λ k m.
-            by_order k done
-            (λ b h. get_or-set_other own done k x 0 (λ q. omega arith) ∙ c.out k b h)
-            (λ b.
-            let z : done ≡ k = omega arith in
-            subst (λ (y : ℕ). get_or starts (place_of y at) 0 ≤ low → get_or (set own done x) y 0 ≡ 0) z
-            (λ h. new ∙ out (omega arith)));
-      }
+  filled-before :
+      (place : ℕ) → place < row → row ≤ length old → get_or (put_mid row n old part) place 0 ≡ get_or old place 0
+  filled-before place l room = grind (arith, common_steps)
+
+  filled-in :
+      (i : ℕ) → i < n → length part ≡ n → row + n ≤ length old
+      → get_or (put_mid row n old part) (row + i) 0 ≡ get_or part i 0
+  filled-in i l size room = grind (arith, common_steps)
+
+  filled-behind :
+      (place : ℕ) → length part ≡ n → row + n ≤ length old → row + n ≤ place
+      → get_or (put_mid row n old part) place 0 ≡ get_or old place 0
+  filled-behind place size room l = grind (arith, common_steps)
 
 -- ## A state that is left
 
 module _ (old : List ℕ) (tight : Bool) (at : ℕ) where
-  pub cleared-loose : tight ≡ false → RowCleared old tight at old row_places
-  cleared-loose e = record { size = refl; only = λ place. remains refl; gone = λ t k l. clash t e }
-
-  pub cleared-none : RowCleared old tight at old 0
-  cleared-none = record { size = refl; only = λ place. remains refl; gone = λ t k l. absurd (omega arith) }
-
-  cleared-then :
-      (mid new : List ℕ) (place : ℕ) → get_or new place 0 ≡ get_or mid place 0 → Cleared old tight at mid place
-      → Cleared old tight at new place
-  cleared-then mid new place e (remains a) = remains (e ∙ a)
-  cleared-then mid new place e (cleared k l is t a) = cleared k l is t (e ∙ a)
-
-  pub cleared_more :
-      (mid : List ℕ) (done place₁ : ℕ) → RowCleared old tight at mid done → tight ≡ true → done < row_places
-      → place₁ ≡ place_of done at → place₁ < length mid
-      → RowCleared old tight at (set mid place₁ 0) (done + 1)
-  cleared_more mid done place₁ c t room is inside =
-      record {
-        size = length-set mid place₁ 0 ∙ c.size;
-        only = λ place. by-test (eqb place₁ place) (here place) (there place);
-        gone = λ t k l.
-            by-test (eqb place₁ (place_of k at))
-            (λ e. zero-at (place_of k at) (eqb-true place₁ (place_of k at) e))
-            (λ e.
-            let other = eqb-false place₁ (place_of k at) e in
-            get_or-set_other mid place₁ (place_of k at) 0 0 (λ q. other (sym q)) ∙ c.gone t k (earlier k l other));
-      }
+  -- the places of a row that is filled
+  pub cleared_row :
+      (zeros : List ℕ) (k : ℕ) → tight ≡ true → k ≡ row_places → zeros ≡ replicate row_places 0
+      → place_of row_places at ≤ length old
+      → RowCleared old tight at (put_mid (at * row_places) k old zeros) row_places
+  cleared_row zeros k t e z room =
+      rw e
+      (record {
+        size = filled-length old (at * row_places) row_places zeros size room;
+        only = λ place.
+            by_order place (at * row_places)
+            (λ l. remains (filled-before old (at * row_places) row_places zeros place l (omega arith)))
+            (λ l.
+            by_order place (at * row_places + row_places)
+            (λ m.
+            let i = place - at * row_places in
+            let is : place ≡ place_of i at = omega arith in
+            cleared i (omega arith) is t (ap (λ (x : ℕ). get_or (put_mid (at * row_places) row_places old zeros) x 0) is ∙ in-row i (omega arith)))
+            (λ m. remains (filled-behind old (at * row_places) row_places zeros place size room m)));
+        gone = λ t' i l. in-row i l;
+      })
     where
-      zero-at : (place : ℕ) → place₁ ≡ place → get_or (set mid place₁ 0) place 0 ≡ 0
-      zero-at place e = subst (λ (x : ℕ). get_or (set mid place₁ 0) x 0 ≡ 0) e (get_or-set_same mid place₁ 0 0 inside)
+      size : length zeros ≡ row_places
+      size = ap length z ∙ length-replicate {A = ℕ} row_places 0
 
-      here : (place : ℕ) → eqb place₁ place ≡ true → Cleared old tight at (set mid place₁ 0) place
-      here place e = let z = eqb-true place₁ place e in cleared done (omega arith) (sym z ∙ is) t (zero-at place z)
-
-      there : (place : ℕ) → eqb place₁ place ≡ false → Cleared old tight at (set mid place₁ 0) place
-      there place e =
-          let other = eqb-false place₁ place e in
-          cleared-then mid (set mid place₁ 0) place (get_or-set_other mid place₁ place 0 0 (λ q. other (sym q))) (c.only place)
-
-      earlier : (k : ℕ) → k < done + 1 → (place₁ ≡ place_of k at → ⊥) → k < done
-      earlier k l other =
-          by_order k done
-          (λ b. b)
-          (λ b. let z : done ≡ k = omega arith in absurd (other (is ∙ ap (λ (x : ℕ). place_of x at) z)))
+      in-row : (i : ℕ) → i < row_places → get_or (put_mid (at * row_places) row_places old zeros) (place_of i at) 0 ≡ 0
+      in-row i l =
+          filled-in old (at * row_places) row_places zeros i l size room
+          ∙ ap (λ (x : List ℕ). get_or x i 0) z
+          ∙ get_or-replicate row_places i 0 0 l
 
 -- ## A state that is led to
 
@@ -199,15 +170,6 @@ raised_by old at start x l a b cases =
         get_or-set_other old at place x 0 (λ q. z (sym q))
 
 module _ (old own : List ℕ) (to : ℕ) where
-  pub row-none : RowRaised old own to old 0
-  row-none =
-      record {
-        size = refl;
-        above = λ place. omega arith;
-        here = λ k l. absurd (omega arith);
-        only = λ place. same refl;
-      }
-
   grown-then :
       (mid new : List ℕ) (place : ℕ) → get_or new place 0 ≡ get_or mid place 0 → Grown old own to mid place
       → Grown old own to new place
@@ -218,11 +180,9 @@ module _ (old own : List ℕ) (to : ℕ) where
   pub row_more :
       (mid : List ℕ) (done place₁ x : ℕ) → RowRaised old own to mid done → done < most_bindings
       → place₁ ≡ place_of (suc done) to → place₁ < length mid
-      → get_or mid place₁ 0 ≤ x
-      → get_or own done 0 ≤ x
-      → (x ≡ get_or mid place₁ 0) ⊎ (x ≡ get_or own done 0)
+      → x ≡ max (get_or mid place₁ 0) (get_or own done 0)
       → RowRaised old own to (set mid place₁ x) (done + 1)
-  row_more mid done place₁ x r room is inside a b cases =
+  row_more mid done place₁ x r room is inside larger =
       record {
         size = raised.size ∙ r.size;
         above = λ place. let c = r.above place in let d = raised.above place in omega arith;
@@ -244,7 +204,9 @@ module _ (old own : List ℕ) (to : ℕ) where
       }
     where
       raised : Raised mid place₁ (get_or own done 0) (set mid place₁ x)
-      raised = raised_by mid place₁ (get_or own done 0) x inside a b cases
+      raised =
+          raised_by mid place₁ (get_or own done 0) x inside (omega arith) (omega arith)
+          (max-one (get_or mid place₁ 0) (get_or own done 0) x larger)
 
 -- ## The states that a state leads to
 
@@ -260,28 +222,6 @@ pub record Spreading (old links own : List ℕ) (at firing : ℕ) (new : List �
   pub only : (place : ℕ) → Led old links own at firing new place
 
 module _ (old links own : List ℕ) (at firing : ℕ) where
-  pub spreading-none : firing < 2 ^ most_variables → Spreading old links own at firing old firing
-  spreading-none small =
-      record {
-        size = refl;
-        small = small;
-        part = λ v t. t;
-        above = λ place. omega arith;
-        here = λ v k t l f. clash t f;
-        only = λ place. unled refl;
-      }
-
-  pub spread-all :
-      (new : List ℕ) (rest : ℕ) → rest ≡ 0 → Spreading old links own at firing new rest
-      → Spread old links own at firing new
-  spread-all new rest e l =
-      record {
-        size = l.size;
-        above = l.above;
-        here = λ v k t m. l.here v k t m (ap (λ (x : ℕ). bit x v) e ∙ bit-zero v);
-        only = l.only;
-      }
-
   led-then :
       (mid new : List ℕ) (place : ℕ) → get_or new place 0 ≡ get_or mid place 0 → Led old links own at firing mid place
       → Led old links own at firing new place

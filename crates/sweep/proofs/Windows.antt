@@ -1,13 +1,7 @@
 -- The windows of records by the bytes of the block: times never fall, a window that is past stays past, and what is
 -- open by the bytes is open by the rule. Assumes nothing.
-use mathlib.Core.Path.{◌≡◌, sym, ap, ap₂, subst, ◌∙◌}
-use mathlib.Core.Bool.{true}
-use mathlib.Core.List.{List}
-use Prim.Native.Nat.{ℕ, zero, suc, ◌+◌, ◌-◌, ◌≤◌, ◌<◌}
-use native.Mathlib.Omega.{arith}
-use lib.Dec.{eqb, ltb}
-use borrow.Author.Tests.{lt-ltb, le-ltb, ltb-false, eqb-true}
-use Rattle.numbers.proofs.Cases.{by_order}
+use Rattle.std.proofs.Common.{◌≡◌, sym, ap, ap₂, subst, ◌∙◌, true, List, ℕ, zero, suc, ◌+◌, ◌-◌, ◌≤◌, ◌<◌, arith, eqb}
+use Rattle.std.proofs.Common.{ltb, ltb-false, eqb-true}
 use Rattle.records.specs.declared.Record.{Record}
 use Rattle.records.specs.Records.{record_at, record_count, records_of, event_kind}
 use Rattle.records.proofs.Listed.{length-records, record-listed}
@@ -17,20 +11,6 @@ use Rattle.rule.specs.Computed.{is_event}
 use Rattle.rule.specs.Starts.{is_past, until}
 use Rattle.rule.proofs.SkipBranch.{before-until, until-bound}
 use Rattle.sweep.specs.Floors.{Past, Open}
-
--- the time is compared without the sum
-pub past-sum : (first duration time : ℕ) → first ≤ time → ltb duration (time - first) ≡ ltb (first + duration) time
-past-sum first duration time h =
-    by_order (first + duration) time
-    (λ l. lt-ltb duration (time - first) (omega arith) ∙ sym (lt-ltb (first + duration) time l))
-    (λ l. le-ltb duration (time - first) (omega arith) ∙ sym (le-ltb (first + duration) time l))
-
--- one record more is past
-pub past_more :
-    (bytes : List ℕ) (duration j i : ℕ) → Past bytes duration i j → ((k : ℕ) → k < i → Past bytes duration k j)
-    → (k : ℕ) → k < i + 1 → Past bytes duration k j
-past_more bytes duration j i here before k l =
-    by_order k i (before k) (λ m. let z : i ≡ k = omega arith in subst (λ (x : ℕ). Past bytes duration x j) z here)
 
 module _ (bytes : List ℕ)
     (climbing : (i : ℕ) → suc i < record_count bytes → (record_at bytes i).time ≤ (record_at bytes (suc i)).time) where

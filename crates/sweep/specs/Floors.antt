@@ -13,6 +13,8 @@ use Rattle.rule.specs.Starts.{found_all}
 use Rattle.plans.specs.Plan.{marks_in, joins_in}
 use Rattle.firing.specs.Firing.{can_by}
 use Rattle.reach.specs.Readings.{leaving_by, Of}
+use Rattle.sweep.specs.declared.Swept.{Swept}
+use Rattle.sweep.specs.declared.Swept.TheVariants.{Reached as taken, NotBefore}
 
 -- record j is past the window of a reading that begins at record i
 abbrev pub Past : List ℕ → ℕ → ℕ → ℕ → Type 0
@@ -66,6 +68,11 @@ pub record Reached (plan bytes : List ℕ) (n c duration floor : ℕ) : Type 0 w
   pub found :
       (p : Pattern) → Of p plan bytes n c → p.duration ≡ duration
       → Memᴰ (over floor) (found_all p (records_of bytes))
+
+-- what the sweep tells: a reading takes a binding too many first at the record, or none does before it
+abbrev pub Sweeps : List ℕ → List ℕ → ℕ → ℕ → ℕ → Swept → Type 0
+Sweeps plan bytes n c duration (taken j) = (Floor plan bytes n c duration j) × Reached plan bytes n c duration j
+Sweeps plan bytes n c duration (NotBefore j) = Floor plan bytes n c duration j
 
 -- the first record whose window has record j
 pub record FirstOpen (bytes : List ℕ) (duration j first : ℕ) : Type 0 where

@@ -1,31 +1,25 @@
-// Rows of a table of text, for the test programs: their words, numbers and hex digits, and what is written. How every
+// Rows of a table of text, for the test programs: their words, numbers and hex digits, and an answer as text. How every
 // program reads standard input.
 #![tactic(auto)]
 
-ghost use Rattle.std.specs.Prelude.{◌≡◌, ◌*◌, ◌<◌, ◌≤◌, IfOk, min, length, take, get_or};
+ghost use Rattle.std.specs.Prelude.{◌<◌, ◌≤◌, IfOk, IfSome, Some, length, take};
+ghost use Rattle.std.specs.Fn.{CalledAt};
 ghost use Rattle.std.specs.Io.KnownBytes.{Consumes, IsAtEnd};
-ghost use Rattle.tables.specs.Rows.{large, FirstFrom, Behind, line_feed, space};
+ghost use Rattle.tables.specs.Rows.{large, FirstFrom, Behind, EachRow, space};
+ghost use Rattle.tables.specs.Answers.{answer_numbers};
 
-use std::io;
+use records::Answer;
 use std::io::Read;
+use std::{fmt, io};
+
+// Room for the bytes that a row's hex digits make.
+pub const ROOM: usize = 4096;
 
 // More than any number of a table.
 const LARGE: usize = 100000;
 
-// Room for the bytes that a row's hex digits make.
-pub fn buffer() -> [u8; 4096]
-    ensures { 4096 ≡ length result }
-{
-    [0; 4096]
-}
-
-pub fn large_buffer() -> [u8; 65536]
-    ensures { 65536 ≡ length result }
-{
-    [0; 65536]
-}
-
-// Reads until the room is full or the input ends, and answers how many bytes there are.
+// Reads until the room is full or the input ends, and answers how many bytes there are. A step is as long as what a
+// read gave.
 pub fn read_full<R: Read>(input: &mut R, room: &mut [u8]) -> io::Result<usize>
     ensures within { IfOk result (λ n. n ≤ length room.new) }
     ensures bytes { IfOk result (λ n. Consumes (R.remaining input.old) (R.remaining input.new) (take n room.new)) }
@@ -42,48 +36,34 @@ pub fn read_full<R: Read>(input: &mut R, room: &mut [u8]) -> io::Result<usize>
     Ok(done)
 }
 
-pub fn put(out: &impl Print, text: &[u8]) -> io::Result<()> {
-    out.write_all(text)
-}
-
-pub fn put_number(out: &impl Print, n: u64) -> io::Result<()> {
-    out.print(n)
-}
-
-// A number as 16 hex digits.
-pub fn put_word(out: &impl Print, n: u64) -> io::Result<()> {
-    print!(out; "{n:016x}")
-}
-
-pub fn least(a: usize, b: usize) -> usize
-    ensures { result ≡ min a b }
+// Calls `row` with each row of a table, in order, until one fails. A line feed ends a row, and so does the end of
+// the table, unless it stands right behind a line feed.
+pub fn rows<F: FnMut(&[u8]) -> io::Result<()>>(table: &[u8], mut row: F) -> io::Result<()>
+    requires { F.IsAlwaysCallable row }
+    ensures { EachRow (λ f line r g. CalledAt F.FnMut f line r g) row table.now result }
 {
-    if a < b { a } else { b }
+    let mut rest = table;
+
+    // no `for`: `split` of std gives a row more behind a line feed that ends the table
+    while !rest.is_empty() {
+        let end = first_from(rest, b'\n', 0);
+        row(&rest[..end])?;
+        rest = &rest[(end + 1).min(rest.len())..];
+    }
+    Ok(())
 }
 
-// Where the line that goes on at a place ends.
-pub fn line_end(table: &[u8], at: usize) -> usize
-    requires { at ≤ length table.now }
-    ensures { FirstFrom table.now line_feed at result }
+// The first place from `at` on that has the byte; the end where there is none, as `FirstFrom` says.
+pub fn first_from(text: &[u8], byte: u8, at: usize) -> usize
+    requires { at ≤ length text.now }
+    ensures { FirstFrom text.now byte at result }
 {
-    let mut i = at;
-    while i < table.len() {
-        if table[i] == b'\n' {
+    for i in at..text.len() {
+        if text[i] == byte {
             return i;
         }
-        i += 1;
     }
-    i
-}
-
-// The first byte of a row, or 0.
-pub fn first(row: &[u8]) -> u8
-    ensures { result ≡ get_or row.now 0 0 }
-{
-    if row.len() == 0 {
-        return 0;
-    }
-    row[0]
+    text.len()
 }
 
 // Where the next word begins, or the row's end.
@@ -91,25 +71,7 @@ pub fn next_word(row: &[u8], at: usize) -> usize
     requires { at ≤ length row.now }
     ensures { Behind row.now space at result × (at ≤ result) × (result ≤ length row.now) }
 {
-    let mut i = at;
-    while i < row.len() {
-        if row[i] == b' ' {
-            return i + 1;
-        }
-        i += 1;
-    }
-    i
-}
-
-// The value of a hex digit, or 16.
-fn digit(glyph: u8) -> usize
-    ensures { result ≤ 16 }
-{
-    match glyph {
-        b'0'..=b'9' => (glyph - b'0') as usize,
-        b'a'..=b'f' => (glyph - b'a') as usize + 10,
-        _ => 16,
-    }
+    (first_from(row, b' ', at) + 1).min(row.len())
 }
 
 // The decimal number at a place.
@@ -117,16 +79,24 @@ pub fn number(row: &[u8], at: usize) -> usize
     ensures { result < large }
 {
     let mut value = 0;
-    let mut i = at;
-    while i < row.len() {
-        let d = digit(row[i]);
-        if 9 < d {
-            return value;
-        }
-        value = (10 * value + d) % LARGE;
-        i += 1;
+    for glyph in &row[at.min(row.len())..] {
+        let Some(d) = char::from(*glyph).to_digit(10) else {
+            break;
+        };
+        value = (10 * value + d as usize) % LARGE;
     }
     value
+}
+
+// The value of a hex digit.
+fn digit(glyph: u8) -> Option<u8>
+    ensures { IfSome result (λ d. d < 16) }
+{
+    match glyph {
+        b'0'..=b'9' => Some(glyph - b'0'),
+        b'a'..=b'f' => Some(glyph - b'a' + 10),
+        _ => None,
+    }
 }
 
 // Puts the bytes that the hex digits of a text make into bytes, which are 0, and answers how many there are.
@@ -134,26 +104,33 @@ pub fn hex_bytes(text: &[u8], bytes: &mut [u8]) -> usize
     ensures { result ≤ length bytes.new }
 {
     let mut digits = 0;
-    let mut i = 0;
-    while i < text.len() {
-        digits = put_digit(bytes, digits, digit(text[i]));
-        i += 1;
+    for glyph in text {
+        if let Some(d) = digit(*glyph)
+            && digits / 2 < bytes.len()
+        {
+            let byte = &mut bytes[digits / 2];
+            *byte = *byte % 16 * 16 + d;
+            digits += 1;
+        }
     }
     digits / 2
 }
 
-// Puts a digit behind the digits there are, and answers how many there are then.
-fn put_digit(bytes: &mut [u8], digits: usize, digit: usize) -> usize
-    requires { digits ≤ 2 * length bytes.old }
-    ensures { result ≤ 2 * length bytes.old }
-{
-    let at = digits / 2;
-    if 15 < digit {
-        return digits;
+// An answer as its numbers: code, place, used, readings, peak.
+#[derive(Clone, Copy)]
+pub struct Numbers(pub Answer);
+
+impl fmt::Display for Numbers {
+    ghost output = { λ n. Some (answer_numbers n.0) };
+
+    fn fmt<W: fmt::Write>(&self, f: &mut fmt::Formatter<W>) -> fmt::Result {
+        let Answer {
+            code,
+            place,
+            used,
+            readings,
+            peak,
+        } = self.0;
+        write!(f, "{code} {place} {used} {readings} {peak}")
     }
-    if bytes.len() <= at {
-        return digits;
-    }
-    bytes[at] = bytes[at] % 16 * 16 + digit as u8;
-    digits + 1
 }

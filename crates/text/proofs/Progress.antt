@@ -2,26 +2,24 @@
 -- nothing.
 use mathlib.Core.Path.{◌≡◌, refl, sym, ap, ◌∙◌, subst}
 use mathlib.Core.Logic.{⊎_elim}
-use mathlib.Core.Bool.{Bool, true, false, not, true≢false}
 use mathlib.Core.List.{List, [], ◌∷◌, ◌++◌, flat_map, append_assoc, append-nil}
 use mathlib.Core.List.Memᴰ
 use mathlib.Core.List.{Memᴰ}
 use Prim.Native.Nat.{ℕ, suc, ◌+◌, ◌-◌, ◌≤◌, ◌<◌}
 use native.Mathlib.Omega.{arith}
-use borrow.Author.Tests.{eqb-true, eqb-false}
-use lib.Dec.{eqb}
 use lib.ListN.{length, get_or, take, drop, length-append, length-take, length-drop, drop_of_length-le}
 use lib.Seq.{split_at, get_or-take, get_or-drop, drop-drop}
-use Rattle.numbers.proofs.Cases.{by-test, by_order}
-use Rattle.form.specs.Form.{Making, InForm, line_feed}
+use Rattle.form.specs.Form.{line_feed}
 use Rattle.form.specs.Lines.{FirstBad}
-use Rattle.form.specs.Items.{Item, item_line, items_of, start, finished, Valid}
+use Rattle.form.specs.Items.{Item, item_line, start, finished, finished, Next, Valid, end}
 use Rattle.form.proofs.Making.{flat_append, flat-one, text-items, valid-snoc, making-of}
 use Rattle.form.proofs.FirstBad.{bad-line, missing-line}
 use Rattle.drafts.specs.declared.Draft.{Draft}
-use Rattle.drafts.specs.Drafts.{Small, DraftOf, LineRead}
-use Rattle.text.specs.LineEnds.{LineEnd}
-use Rattle.text.specs.Texts.{TextRead}
+use Rattle.drafts.specs.declared.Phase.{Phase}
+use Rattle.drafts.specs.declared.Phase.TheVariants.{Empty, Sets, Whens, Finished}
+use Rattle.drafts.specs.Drafts.{phase_of, Small, DraftOf, ItemRead}
+use Rattle.text.specs.LineEnds.{Clear, FirstFeed}
+use Rattle.text.specs.Texts.{Good}
 
 absent : (x : ℕ) (l : List ℕ) → ((k : ℕ) → k < length l → get_or l k 0 ≡ x → ⊥) → ¬ Memᴰ x l
 absent x [] f m = Memᴰ.not-nil m
@@ -31,54 +29,43 @@ absent x (y ∷ l) f m =
 
 -- ## Where a line ends
 
--- no line feed among the bytes between two places
-abbrev pub Clear : List ℕ → ℕ → ℕ → Type 0
-Clear text from at = (k : ℕ) → from ≤ k → k < at → get_or text k 0 ≡ line_feed → ⊥
-
-pub clear_none : (text : List ℕ) (from : ℕ) → Clear text from from
-clear_none text from k h l e = omega arith
-
-pub clear-more :
-    (text : List ℕ) (from at : ℕ) → Clear text from at → ¬ (get_or text at 0 ≡ line_feed) → Clear text from (at + 1)
-clear-more text from at f n k h l e =
-    by_order k at (λ s. f k h s e)
-    (λ s. let q : k ≡ at = omega arith in n (subst (λ (k : ℕ). get_or text k 0 ≡ line_feed) q e))
-
 -- the bytes of a line
 abbrev pub line_bytes : List ℕ → ℕ → ℕ → List ℕ
 line_bytes text at e = take (e - at) (drop at text)
 
-module _ (text : List ℕ) (at e : ℕ) (h : LineEnd text at e) where
+module _ (text : List ℕ) (at e : ℕ) (h : FirstFeed text at e) where
   line_clear : ¬ Memᴰ line_feed (line_bytes text at e)
   line_clear =
       absent line_feed (line_bytes text at e)
       (λ k l q.
       let n = length-take (e - at) (drop at text) in
       let s : k < e - at = omega arith in
+      let i = h.inside in
       h.clear (at + k) (omega arith) (omega arith)
       (sym (get_or-drop at text k 0) ∙ sym (get_or-take (e - at) (drop at text) k 0 s) ∙ q))
 
-  line-cut : e < length text → drop at text ≡ line_bytes text at e ++ (line_feed ∷ drop (e + 1) text)
-  line-cut l =
+  line-cut : drop at text ≡ line_bytes text at e ++ (line_feed ∷ drop (e + 1) text)
+  line-cut =
       let b = h.behind in
+      let i = h.inside in
       let n = length-drop at text in
       let p : at + (e - at) ≡ e = omega arith in
       let q : at + suc (e - at) ≡ e + 1 = omega arith in
       let s = split_at (drop at text) (e - at) 0 (omega arith) in
       let f : get_or (drop at text) (e - at) 0 ≡ line_feed =
-      get_or-drop at text (e - at) 0 ∙ ap (λ (k : ℕ). get_or text k 0) p ∙ h.here l in
+      get_or-drop at text (e - at) 0 ∙ ap (λ (k : ℕ). get_or text k 0) p ∙ h.here in
       let g : drop (suc (e - at)) (drop at text) ≡ drop (e + 1) text =
       drop-drop (suc (e - at)) at text ∙ ap (λ (k : ℕ). drop k text) q in
       s
       ∙ ap (λ (x : ℕ). line_bytes text at e ++ (x ∷ drop (suc (e - at)) (drop at text))) f
       ∙ ap (λ (r : List ℕ). line_bytes text at e ++ (line_feed ∷ r)) g
 
-  -- no line feed from a place on
-  rest-clear : e ≡ length text → ¬ Memᴰ line_feed (drop at text)
-  rest-clear q =
-      absent line_feed (drop at text)
-      (λ k l r.
-      let n = length-drop at text in h.clear (at + k) (omega arith) (omega arith) (sym (get_or-drop at text k 0) ∙ r))
+-- no line feed from a place on
+rest-clear : (text : List ℕ) (at : ℕ) → Clear text at (length text) → ¬ Memᴰ line_feed (drop at text)
+rest-clear text at clear =
+    absent line_feed (drop at text)
+    (λ k l r.
+    let n = length-drop at text in clear (at + k) (omega arith) (omega arith) (sym (get_or-drop at text k 0) ∙ r))
 
 -- the lines before a place, and what they tell
 pub record Progress (text : List ℕ) (draft : Draft) (line at : ℕ) : Type 0 where
@@ -105,30 +92,34 @@ begin text draft s t =
       bytes = refl;
     }
 
+pub only-finished : (phase : Phase) → phase_of phase ≡ finished → phase ≡ Finished
+only-finished Empty e = absurd (omega arith)
+only-finished Sets e = absurd (omega arith)
+only-finished Whens e = absurd (omega arith)
+only-finished Finished e = refl
+
 module _ (text : List ℕ) (draft : Draft) (line at : ℕ) (p : Progress text draft line at) where
-  module _ (e : ℕ) (h : LineEnd text at e) where
-    bytes_cut :
-        e < length text
-        → text ≡ flat_map item_line p.items ++ (line_bytes text at e ++ (line_feed ∷ drop (e + 1) text))
-    bytes_cut l = p.bytes ∙ ap (λ (r : List ℕ). flat_map item_line p.items ++ r) (line-cut text at e h l)
+  module _ (e : ℕ) (h : FirstFeed text at e) where
+    bytes_cut : text ≡ flat_map item_line p.items ++ (line_bytes text at e ++ (line_feed ∷ drop (e + 1) text))
+    bytes_cut = p.bytes ∙ ap (λ (r : List ℕ). flat_map item_line p.items ++ r) (line-cut text at e h)
 
     pub one_more :
-        (r : Draft) → e < length text → Small r → LineRead p.items (line_bytes text at e) r → r.bad ≡ false
-        → Progress text r (line + 1) (e + 1)
-    one_more r l s (LineRead.good i n b t) f =
+        (r : Draft) → Small r → ItemRead p.items (line_bytes text at e) r → Progress text r (line + 1) (e + 1)
+    one_more r s t =
         let l1 = h.behind in
+        let l2 = h.inside in
         let c = p.count in
         let w = p.few in
-        let k = length-append p.items (i ∷ []) in
+        let k = length-append p.items (t.item ∷ []) in
         record {
-          items = p.items ++ (i ∷ []);
-          valid = valid-snoc start p.items i p.valid n;
-          told = t;
+          items = p.items ++ (t.item ∷ []);
+          valid = valid-snoc start p.items t.item p.valid t.next;
+          told = t.told;
           small = s;
           count = omega arith;
           few = omega arith;
           bound = omega arith;
-          bytes = bytes_cut l ∙ sym (shifted i b);
+          bytes = bytes_cut ∙ sym (shifted t.item t.read);
         }
       where
         shifted :
@@ -142,35 +133,32 @@ module _ (text : List ℕ) (draft : Draft) (line at : ℕ) (p : Progress text dr
             ∙ ap (λ (x : List ℕ). flat_map item_line p.items ++ (x ++ rest)) (flat-one item_line i ∙ b)
             ∙ ap (λ (x : List ℕ). flat_map item_line p.items ++ x)
             (append_assoc (line_bytes text at e) (line_feed ∷ []) rest)
-    one_more r l s (LineRead.bad n b) f = absurd (true≢false (sym b ∙ f))
 
     pub bad-here :
-        (r : Draft) → e < length text → LineRead p.items (line_bytes text at e) r → r.bad ≡ true → FirstBad text line
-    bad-here r l (LineRead.good i n b t) f = absurd (true≢false (sym f ∙ t.good))
-    bad-here r l (LineRead.bad n b) f =
+        ((i : Item) → Next (end start p.items) i → ¬ (item_line i ≡ line_bytes text at e ++ (line_feed ∷ [])))
+        → FirstBad text line
+    bad-here n =
         subst (λ (k : ℕ). FirstBad text k) p.count
-        (bad-line text p.items (line_bytes text at e) (drop (e + 1) text) p.valid (bytes_cut l)
-        (line_clear text at e h)
-        n)
+        (bad-line text p.items (line_bytes text at e) (drop (e + 1) text) p.valid bytes_cut (line_clear text at e h) n)
 
-    pub cut-here : at < length text → e ≡ length text → FirstBad text line
-    cut-here l q =
-        subst (λ (k : ℕ). FirstBad text k) p.count
-        (missing-line text p.items (drop at text) p.valid p.bytes (rest-clear text at e h q)
-        (λ z. let n = length-drop at text in let k : length (drop at text) ≡ 0 = ap length z in absurd (omega arith)))
+  pub cut-here : at < length text → Clear text at (length text) → FirstBad text line
+  cut-here l clear =
+      subst (λ (k : ℕ). FirstBad text k) p.count
+      (missing-line text p.items (drop at text) p.valid p.bytes (rest-clear text at clear)
+      (λ z. let n = length-drop at text in let k : length (drop at text) ≡ 0 = ap length z in absurd (omega arith)))
 
   module _ (l : length text ≤ at) where
     nothing_left : drop at text ≡ []
     nothing_left = drop_of_length-le text l
 
-    pub unfinished-here : ¬ (draft.phase ≡ finished) → FirstBad text line
+    pub unfinished-here : ¬ (phase_of draft.phase ≡ finished) → FirstBad text line
     unfinished-here n =
         subst (λ (k : ℕ). FirstBad text k) p.count
         (missing-line text p.items (drop at text) p.valid p.bytes
         (λ m. Memᴰ.not-nil (subst (λ (r : List ℕ). Memᴰ line_feed r) nothing_left m))
         (λ z f. n (p.told.phase ∙ f)))
 
-    pub finished-here : draft.phase ≡ finished → (m : Making) × InForm text m × DraftOf (items_of m) draft
+    pub finished-here : phase_of draft.phase ≡ finished → Good text draft
     finished-here f =
         let r = making-of p.items p.valid (sym p.told.phase ∙ f) in
         let e : text ≡ flat_map item_line p.items =
@@ -178,15 +166,9 @@ module _ (text : List ℕ) (draft : Draft) (line at : ℕ) (p : Progress text dr
         ∙ ap (λ (x : List ℕ). flat_map item_line p.items ++ x) nothing_left
         ∙ append-nil (flat_map item_line p.items) in
         let t = text-items r.0 ∙ ap (λ (l : List Item). flat_map item_line l) r.2 in
-        let told = subst (λ (l : List Item). DraftOf l draft) (sym r.2) p.told in
-        (r.0, record { bytes = e ∙ sym t; order = r.1 }, told)
-
-    pub read_all :
-        (b : Bool) → b ≡ not (eqb draft.phase finished)
-        → TextRead text (record { bad = b; line = line; draft = draft })
-    read_all b q =
-        by-test (eqb draft.phase finished)
-        (λ t.
-        let r = finished-here (eqb-true draft.phase finished t) in
-        TextRead.good r.0 r.1 r.2 p.small (q ∙ ap not t))
-        (λ t. TextRead.bad (unfinished-here (eqb-false draft.phase finished t)) (q ∙ ap not t))
+        record {
+          making = r.0;
+          form = record { bytes = e ∙ sym t; order = r.1 };
+          draft = subst (λ (l : List Item). DraftOf l draft) (sym r.2) p.told;
+          small = p.small;
+        }

@@ -1,5 +1,5 @@
 -- Whether a pattern has fields for a draft.
-use Rattle.std.specs.Prelude.{◌≡◌, Bool, true, false, ◌^◌, ◌≤◌, ◌<◌}
+use Rattle.std.specs.Prelude.{Bool, true, false, ◌^◌, ◌≤◌, ◌<◌}
 use Rattle.patterns.specs.Patterns.{most_variables, most_conditions}
 use Rattle.drafts.specs.declared.Draft.{Draft}
 
@@ -9,6 +9,6 @@ pub record DraftFits (d : Draft) : Type 0 where
   pub short : d.duration < 2 ^ 40
 
 -- whether a draft is too large
-pub data Measured (d : Draft) (large : Bool) : Type 0 where
-  fits : DraftFits d → large ≡ false → Measured d large
-  too_large : ¬ DraftFits d → large ≡ true → Measured d large
+abbrev pub Measured : Draft → Bool → Type 0
+Measured d false = DraftFits d
+Measured d true = ¬ DraftFits d

@@ -1,6 +1,7 @@
 -- How a call on texts ends: bytes given to the caller's slice, or a refusal that leaves it all 0.
-use Rattle.std.specs.Prelude.{◌≡◌, List, ◌++◌, ℕ, ◌-◌, ◌≤◌, ◌<◌, length, replicate}
+use Rattle.std.specs.Prelude.{◌≡◌, List, ◌++◌, ℕ, ◌-◌, ◌≤◌, ◌<◌, length, replicate, Result, Ok, Err}
 use Rattle.records.specs.declared.Answer.{Answer}
+use Rattle.records.specs.declared.refusals.Refusal.{Refusal}
 use Rattle.records.specs.Blocks.{refused}
 use Rattle.patterns.specs.Checked.{pattern_answer}
 use Rattle.form.specs.Promises.{bytes_written}
@@ -23,3 +24,8 @@ pub data Judged (bytes : List ℕ) (lent : ℕ) (answer : Answer) (after : List 
       → Refused lent (pattern_answer bytes).code (pattern_answer bytes).place answer after
       → Judged bytes lent answer after
   accepted : (pattern_answer bytes).code ≡ 0 → Given bytes lent answer after → Judged bytes lent answer after
+
+-- what an outcome leaves of what a call has put into the slice: nothing where it is a refusal
+abbrev pub left : Result ℕ Refusal → List ℕ → List ℕ
+left (Ok n) memory = memory
+left (Err r) memory = replicate (length memory) 0

@@ -1,5 +1,5 @@
 -- What comes of the lines of a text.
-use Rattle.std.specs.Prelude.{◌≡◌, true, false, ℕ, take}
+use Rattle.std.specs.Prelude.{ℕ, take, Result, Ok, Err}
 use mathlib.Core.List.{List, ◌++◌, flat_map}
 use Rattle.numbers.specs.Bytes.{word_bytes}
 use Rattle.form.specs.Form.{Making, InForm}
@@ -8,14 +8,18 @@ use Rattle.form.specs.Items.{items_of}
 use Rattle.form.specs.Packed.{header_bits}
 use Rattle.drafts.specs.declared.Draft.{Draft}
 use Rattle.drafts.specs.Drafts.{Small, DraftOf}
-use Rattle.text.specs.declared.Reading.{Reading}
 
--- a text of the form with what it tells, or the first line that is bad or missing
-pub data TextRead (text : List ℕ) (r : Reading) : Type 0 where
-  good :
-      (m : Making) → InForm text m → DraftOf (items_of m) r.draft → Small r.draft → r.bad ≡ false
-      → TextRead text r
-  bad : FirstBad text r.line → r.bad ≡ true → TextRead text r
+-- a text of the form, with what it tells
+pub record Good (text : List ℕ) (d : Draft) : Type 0 where
+  pub making : Making
+  pub form : InForm text making
+  pub draft : DraftOf (items_of making) d
+  pub small : Small d
+
+-- what a text of the form tells, or the first line that is bad or missing
+abbrev pub TextRead : List ℕ → Result Draft ℕ → Type 0
+TextRead text (Ok d) = Good text d
+TextRead text (Err line) = FirstBad text line
 
 -- the bytes of the pattern of a draft
 unfoldable pub draft_bytes : Draft → List ℕ

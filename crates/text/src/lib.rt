@@ -1,246 +1,208 @@
 // The text form of patterns: texts read into pattern bytes, and written from them.
 #![tactic(auto)]
 
-ghost use Rattle.std.specs.Prelude.{◌≡◌, ◌+◌, ◌*◌, ◌≤◌, min, length, take, replicate};
+ghost use Rattle.std.specs.Prelude.{◌≡◌, ◌+◌, ◌*◌, ◌^◌, ◌≤◌, ◌<◌, min, length, take};
 ghost use mathlib.Core.List.{flat_map};
 ghost use Rattle.numbers.specs.Put.{Put};
 ghost use Rattle.numbers.specs.Bytes.{word_bytes};
+ghost use Rattle.records.specs.Refusals.{judged_as};
 ghost use Rattle.patterns.specs.Patterns.{header_bytes, most_variables, condition_bytes, most_conditions};
+ghost use Rattle.patterns.specs.Checked.{InOrder};
+ghost use Rattle.form.specs.Form.{text_of};
 ghost use Rattle.form.specs.Packed.{header_bits, most_bytes};
-ghost use Rattle.form.specs.Promises.{ReadPromise, WritePromise, bytes_written, most_place, most_text};
+ghost use Rattle.form.specs.Promises.{ReadPromise, WritePromise, most_place};
 ghost use Rattle.drafts.specs.Drafts.{Small};
+ghost use Rattle.wording.specs.Wording.{making_of};
 ghost use Rattle.text.specs.LineEnds.{LineEnd};
 ghost use Rattle.text.specs.Texts.{TextRead, draft_bytes};
 ghost use Rattle.text.specs.Fitting.{DraftFits, Measured};
-ghost use Rattle.text.specs.Given.{Refused, Given, Judged};
+ghost use Rattle.text.specs.Given.{Given, Judged, left};
 
-use drafts::Draft;
-use records::Answer;
+use drafts::{Draft, Phase};
+use patterns::Pattern;
+use records::{Answer, Refusal};
 
 // The longest pattern.
 const MOST_BYTES: usize = patterns::HEADER_BYTES
     + patterns::MOST_VARIABLES
     + patterns::CONDITION_BYTES * patterns::MOST_CONDITIONS;
 
-// What the lines of a text tell: the first bad or missing one, or all that they hold.
-#[derive(Clone, Copy)]
-pub struct Reading {
-    pub bad: bool,
-    pub line: usize,
-    pub draft: Draft,
-}
-
-// The first line feed from a place on, or the end.
-fn line_end(text: &[u8], from: usize) -> usize
+// The first line feed from a place on.
+fn line_end(text: &[u8], from: usize) -> Option<usize>
     requires { from ≤ length text.now }
     ensures { LineEnd text.now from result }
 {
-    let mut at = from;
-    while at < text.len() {
+    for at in from..text.len() {
         if text[at] == b'\n' {
-            return at;
+            return Some(at);
         }
-        at += 1;
     }
-    at
+    None
 }
 
-// The lines of a text, up to the first bad one.
+// What the lines of a text tell, or the first bad or missing line. A step is as long as a line.
 // It has a frame of its own, which does not stand while the pattern is checked.
 #[inline(never)]
-fn read_lines(text: &[u8]) -> Reading
+fn read_lines(text: &[u8]) -> Result<Draft, usize>
     ensures { TextRead text.now result }
 {
     let mut draft = drafts::blank();
     let mut line = 0;
     let mut at = 0;
     while at < text.len() {
-        let end = line_end(text, at);
-        if end == text.len() {
-            return Reading {
-                bad: true,
-                line: line,
-                draft: draft,
-            };
-        }
-        draft = drafts::read_line(&text[at..end], draft);
-        if draft.bad {
-            return Reading {
-                bad: true,
-                line: line,
-                draft: draft,
-            };
-        }
+        let Some(end) = line_end(text, at) else {
+            return Err(line);
+        };
+        let Some(more) = drafts::read_line(&text[at..end], draft) else {
+            return Err(line);
+        };
+        draft = more;
         line += 1;
         at = end + 1;
     }
-    Reading {
-        bad: draft.phase != drafts::FINISHED,
-        line: line,
-        draft: draft,
+    match draft.phase {
+        Phase::Finished => Ok(draft),
+        _ => Err(line),
     }
 }
 
 // The header of a draft that fits a pattern.
-fn header_bits(d: Draft) -> u64
-    requires { DraftFits d }
-    ensures { result ≡ header_bits d.n d.c d.duration }
+fn header_bits(d: &Draft) -> u64
+    requires { DraftFits d.now }
+    ensures { result ≡ header_bits d.now.n d.now.c d.now.duration }
 {
     1152921504606846976 + d.n as u64 * 72057594037927936 + d.c as u64 * 281474976710656 + d.duration
 }
 
 // The bytes of the variables.
-fn put_variables(d: Draft, bytes: &mut [u8]) -> usize
-    requires { (length d.variables ≡ most_variables) × (d.n ≤ most_variables) × (most_bytes ≤ length bytes.old) }
-    ensures { Put bytes.old bytes.new header_bytes (take d.n d.variables) result }
+fn put_variables(d: &Draft, bytes: &mut [u8]) -> usize
+    requires { (d.now.n ≤ most_variables) × (most_bytes ≤ length bytes.old) }
+    ensures { Put bytes.old bytes.new header_bytes (take d.now.n d.now.variables) result }
 {
     let n = d.n as usize;
-    let mut v = 0;
-    while v < n {
-        bytes[patterns::HEADER_BYTES + v] = d.variables[v];
-        v += 1;
-    }
-    patterns::HEADER_BYTES + n
+    let end = patterns::HEADER_BYTES + n;
+    bytes[patterns::HEADER_BYTES..end].copy_from_slice(&d.variables[..n]);
+    end
 }
 
 // The bytes of the conditions.
-fn put_conditions(d: Draft, bytes: &mut [u8], at: usize) -> usize
-    requires { (length d.conditions ≡ most_conditions) × (d.c ≤ most_conditions)
-        × (at + condition_bytes * most_conditions ≤ length bytes.old) }
+fn put_conditions(d: &Draft, bytes: &mut [u8], at: usize) -> usize
+    requires { (d.now.c ≤ most_conditions) × (at + condition_bytes * most_conditions ≤ length bytes.old) }
     ensures { Put bytes.old bytes.new at
-        (flat_map word_bytes (take d.c d.conditions)) result }
+        (flat_map word_bytes (take d.now.c d.now.conditions)) result }
 {
-    let c = d.c as usize;
     let mut end = at;
-    let mut i = 0;
-    while i < c {
+    for i in 0..d.c as usize {
         numbers::store_word(bytes, end, d.conditions[i]);
         end += patterns::CONDITION_BYTES;
-        i += 1;
     }
     end
 }
 
 // The pattern of a draft, from the beginning of the memory on.
-fn put_draft(d: Draft, bytes: &mut [u8]) -> usize
-    requires { Small d × DraftFits d × (most_bytes ≤ length bytes.old) }
-    ensures { Put bytes.old bytes.new 0 (draft_bytes d) result × (result ≤ most_bytes) }
+fn put_draft(d: &Draft, bytes: &mut [u8]) -> usize
+    requires { Small d.now × DraftFits d.now × (most_bytes ≤ length bytes.old) }
+    ensures { Put bytes.old bytes.new 0 (draft_bytes d.now) result × (result ≤ most_bytes) }
 {
     numbers::store_word(bytes, 0, header_bits(d));
     let variables = put_variables(d, bytes);
     put_conditions(d, bytes, variables)
 }
 
-// Whether a pattern has fields for it.
-fn is_too_large(d: Draft) -> bool
-    ensures { Measured d result }
+// Whether a pattern has no fields for it.
+fn is_too_large(d: &Draft) -> bool
+    ensures { Measured d.now result }
 {
-    if patterns::MOST_VARIABLES < d.n as usize {
-        return true;
-    }
-    if patterns::MOST_CONDITIONS < d.c as usize {
-        return true;
-    }
-    if words::LARGE <= d.duration {
-        return true;
-    }
-    false
+    patterns::MOST_VARIABLES < d.n as usize
+        || patterns::MOST_CONDITIONS < d.c as usize
+        || words::LARGE <= d.duration
 }
 
 // A line's number as a place.
 fn place(line: usize) -> u32
     ensures { result ≡ min line most_place }
 {
-    if 4294967295 < line {
-        return 4294967295;
-    }
-    line as u32
+    u32::try_from(line).unwrap_or(u32::MAX)
 }
 
-// A refusal, and the slice all 0.
-fn refuse(memory: &mut [u8], code: u8, place: u32) -> Answer
-    ensures { Refused (length memory.old) code place result memory.new }
-{
-    numbers::clear(memory);
-    records::refusal(code, place)
-}
-
-fn success(bytes: usize) -> Answer
-    ensures { result ≡ bytes_written bytes }
-{
-    Answer {
-        code: 0,
-        place: 0,
-        used: bytes as u64,
-        readings: 0,
-        peak: 0,
-    }
-}
-
-// Bytes for the caller, with 0 behind them, or refusal 12 where they do not fit.
-fn give(memory: &mut [u8], bytes: &[u8]) -> Answer
-    ensures { Given bytes.now (length memory.old) result memory.new }
+// Bytes for the caller, with 0 behind them, and how many they are; refusal 12 where they do not fit.
+fn give(memory: &mut [u8], bytes: &[u8]) -> Result<usize, Refusal>
+    ensures { Given bytes.now (length memory.old) (judged_as result) (left result memory.new) }
 {
     if memory.len() < bytes.len() {
-        return refuse(memory, 12, 0);
+        return Err(Refusal::SliceRoom);
     }
     let end = numbers::put_word(memory, 0, bytes);
-    let whole = memory.len();
-    numbers::clear(&mut memory[end..whole]);
-    success(end)
-}
-
-// Room for the longest pattern.
-fn pattern_room() -> [u8; MOST_BYTES]
-    ensures { result ≡ replicate most_bytes 0 }
-{
-    [0; MOST_BYTES]
+    memory[end..].fill(0);
+    Ok(end)
 }
 
 // The pattern of a draft for the caller, if the check of patterns accepts it.
-fn give_draft(d: Draft, pattern: &mut [u8]) -> Answer
-    requires { Small d × DraftFits d }
-    ensures { Judged (draft_bytes d) (length pattern.old) result pattern.new }
+fn give_draft(d: &Draft, pattern: &mut [u8]) -> Result<usize, Refusal>
+    requires { Small d.now × DraftFits d.now }
+    ensures { Judged (draft_bytes d.now) (length pattern.old) (judged_as result) (left result pattern.new) }
 {
-    let mut bytes = pattern_room();
+    let mut bytes = [0; MOST_BYTES];
     let used = put_draft(d, &mut bytes);
-    let checked = patterns::check_pattern(&bytes[..used]);
-    if checked.code != 0 {
-        return refuse(pattern, checked.code, checked.place);
-    }
+    patterns::read(&bytes[..used])?;
     give(pattern, &bytes[..used])
+}
+
+// A text's pattern for the caller, or refusal 14, 2, 3 or 12. The draft is lent where it was read: a copy of it would
+// stand beside it.
+fn read(text: &[u8], pattern: &mut [u8]) -> Result<usize, Refusal>
+    ensures { ReadPromise text.now (length pattern.old) (judged_as result) (left result pattern.new) }
+{
+    match &read_lines(text) {
+        Ok(draft) => {
+            if is_too_large(draft) {
+                return Err(Refusal::Header);
+            }
+            give_draft(draft, pattern)
+        }
+        Err(line) => Err(Refusal::Line(place(*line))),
+    }
+}
+
+// The text of a checked pattern for the caller.
+// It has a frame of its own, which does not stand while the pattern is checked.
+#[inline(never)]
+fn give_text(p: Pattern, text: &mut [u8]) -> Result<usize, Refusal>
+    requires { InOrder p × (p.duration < 2 ^ 40) }
+    ensures { Given (text_of (making_of p)) (length text.old) (judged_as result) (left result text.new) }
+{
+    let mut room = [0; wording::MOST_TEXT];
+    let used = wording::put_pattern(p, &mut room);
+    give(text, &room[..used])
+}
+
+// A pattern's text for the caller, or refusals 1 to 4, or 12.
+fn write(pattern: &[u8], text: &mut [u8]) -> Result<usize, Refusal>
+    ensures { WritePromise pattern.now (length text.old) (judged_as result) (left result text.new) }
+{
+    give_text(patterns::read(pattern)?, text)
+}
+
+// The answer of a call, whose refusal leaves the slice all 0.
+fn answered(outcome: Result<usize, Refusal>, memory: &mut [u8]) -> Answer
+    ensures { (result ≡ judged_as outcome) × (memory.new ≡ left outcome memory.old) }
+{
+    if outcome.is_err() {
+        memory.fill(0);
+    }
+    Answer::from(outcome)
 }
 
 // Reads a text into the bytes of a pattern.
 pub fn read_text(text: &[u8], pattern: &mut [u8]) -> Answer
     ensures { ReadPromise text.now (length pattern.old) result pattern.new }
 {
-    let read = read_lines(text);
-    if read.bad {
-        return refuse(pattern, 14, place(read.line));
-    }
-    if is_too_large(read.draft) {
-        return refuse(pattern, 2, 0);
-    }
-    give_draft(read.draft, pattern)
-}
-
-// Room for the longest text.
-fn text_room() -> [u8; wording::MOST_TEXT]
-    ensures { result ≡ replicate most_text 0 }
-{
-    [0; wording::MOST_TEXT]
+    answered(read(text, pattern), pattern)
 }
 
 // Writes the text of a pattern.
 pub fn write_text(pattern: &[u8], text: &mut [u8]) -> Answer
     ensures { WritePromise pattern.now (length text.old) result text.new }
 {
-    let checked = patterns::check_pattern(pattern);
-    if checked.code != 0 {
-        return refuse(text, checked.code, checked.place);
-    }
-    let mut room = text_room();
-    let used = wording::put_pattern(checked.pattern, &mut room);
-    give(text, &room[..used])
+    answered(write(pattern, text), text)
 }

@@ -13,37 +13,17 @@ use Rattle.patterns.specs.declared.Pattern.{Pattern}
 use Rattle.patterns.specs.declared.Condition.{Condition}
 use Rattle.patterns.specs.Checked.{InOrder, condition_at}
 use Rattle.patterns.specs.Comparison.{constant_value}
-use Rattle.form.specs.Form.{line_feed, attribute_words, attribute_word, operator_words}
-use Rattle.form.specs.Form.{operator_word, side_word, integer, operand_word, set_line, when_line, within_line, text_of}
+use Rattle.form.specs.Form.{line_feed}
+use Rattle.form.specs.Form.{side_word, integer, operand_word, set_line, when_line, within_line, text_of}
 use Rattle.form.specs.Promises.{most_text}
 use Rattle.wording.specs.Wording.{sets_up_to, when_of, making_of}
-use Rattle.wording.specs.Parts.{side_text, operator_text, open_lines}
-use Rattle.wording.proofs.Pieces.{constant-operand, other-operand, when-text, within_text}
+use Rattle.wording.specs.Parts.{side_text, open_lines}
+use Rattle.wording.proofs.Pieces.{attribute-length, operator-length, constant-operand, other-operand, when-text, within_text}
 use Rattle.wording.proofs.Sets.{open-short, closed-sets}
 use Rattle.wording.proofs.Whens.{whens_of, whens-snoc, flat-snoc}
 use Rattle.wording.proofs.Conditions.{by_sign}
 
 -- ## Words
-
-attribute-length : (a : ℕ) → length (attribute_word a) ≤ 6
-unfolding attribute_word attribute_words
-attribute-length zero = omega arith
-attribute-length (suc zero) = omega arith
-attribute-length (suc (suc zero)) = omega arith
-attribute-length (suc (suc (suc zero))) = omega arith
-attribute-length (suc (suc (suc (suc zero)))) = omega arith
-attribute-length (suc (suc (suc (suc (suc zero))))) = omega arith
-attribute-length (suc (suc (suc (suc (suc (suc a)))))) = omega arith
-
-operator-length : (a : ℕ) → length (operator_text a) ≤ 4
-unfolding operator_text operator_word operator_words
-operator-length zero = omega arith
-operator-length (suc zero) = omega arith
-operator-length (suc (suc zero)) = omega arith
-operator-length (suc (suc (suc zero))) = omega arith
-operator-length (suc (suc (suc (suc zero)))) = omega arith
-operator-length (suc (suc (suc (suc (suc zero))))) = omega arith
-operator-length (suc (suc (suc (suc (suc (suc a)))))) = omega arith
 
 side-length : (variable attribute : ℕ) → length (side_text variable attribute) ≤ 8
 unfolding side_text side_word

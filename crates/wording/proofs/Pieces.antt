@@ -1,5 +1,8 @@
 -- The pieces of a text, put one behind the other. Assumes nothing.
 use mathlib.Core.Path.{◌≡◌, ap}
+use Rattle.std.proofs.Common.{get_or, map, zero}
+use Rattle.std.proofs.lemmas.List.{get_or-map}
+use Rattle.patterns.specs.Patterns.{last_operator}
 use mathlib.Core.Bool.{true, false}
 use mathlib.Core.List.{List, [], ◌∷◌, ◌++◌, append_assoc, append-nil}
 use Prim.Native.Nat.{ℕ, suc, ◌+◌, ◌-◌, ◌^◌, ◌≤◌, ◌<◌}
@@ -14,7 +17,7 @@ use Rattle.patterns.specs.declared.Condition.{Condition}
 use Rattle.patterns.specs.Checked.{is_group}
 use Rattle.patterns.specs.Comparison.{signed, constant_value}
 use Rattle.form.specs.Form.{line_feed, space, plus, minus, set_word, when_word, within_word, member_word}
-use Rattle.form.specs.Form.{constant, other, integer, operand_word, spaced, line, when_line, within_line}
+use Rattle.form.specs.Form.{attribute_words, attribute_word, operator_words, operator_word, constant, other, integer, operand_word, spaced, line, when_line, within_line}
 use Rattle.wording.specs.Wording.{letter_of, member_of, begins_set, when_of}
 use Rattle.wording.specs.Parts.{member_text, set_text, variable_text, side_text, operator_text}
 
@@ -38,6 +41,36 @@ put_three text at a b c h =
     rw e
     (put_then (put_two text at a b (omega arith))
     (put_byte (set (set text at a) (at + 1) b) (at + 2) c (simp length-set (omega arith))))
+
+-- ## Words of attributes and operators
+
+pub attribute-length : (a : ℕ) → length (attribute_word a) ≤ 6
+unfolding attribute_word attribute_words
+attribute-length zero = omega arith
+attribute-length (suc zero) = omega arith
+attribute-length (suc (suc zero)) = omega arith
+attribute-length (suc (suc (suc zero))) = omega arith
+attribute-length (suc (suc (suc (suc zero)))) = omega arith
+attribute-length (suc (suc (suc (suc (suc zero))))) = omega arith
+attribute-length (suc (suc (suc (suc (suc (suc a)))))) = omega arith
+
+pub operator-length : (a : ℕ) → length (operator_text a) ≤ 4
+unfolding operator_text operator_word operator_words
+operator-length zero = omega arith
+operator-length (suc zero) = omega arith
+operator-length (suc (suc zero)) = omega arith
+operator-length (suc (suc (suc zero))) = omega arith
+operator-length (suc (suc (suc (suc zero)))) = omega arith
+operator-length (suc (suc (suc (suc (suc zero))))) = omega arith
+operator-length (suc (suc (suc (suc (suc (suc a)))))) = omega arith
+
+-- the operators between spaces, by their numbers
+abbrev pub operator_texts : List (List ℕ)
+operator_texts = map (λ (word : List ℕ). space ∷ (word ++ (space ∷ []))) operator_words
+
+pub operator-row : (a : ℕ) → a ≤ last_operator → get_or operator_texts a [] ≡ operator_text a
+unfolding operator_text operator_word operator_words
+operator-row a h = get_or-map (λ (word : List ℕ). space ∷ (word ++ (space ∷ []))) operator_words a [] [] (omega arith)
 
 -- ## Set lines
 
@@ -114,8 +147,3 @@ pub within_text :
     → within_line duration ≡ ((within_word ++ (space ∷ [])) ++ decimal duration) ++ (line_feed ∷ [])
 unfolding within_line line spaced
 within_text duration = simp (append_assoc, append-nil)
-
--- ## The last of six attributes or operators
-
-pub last-of-six : (a : ℕ) → a ≤ 5 → ¬ (a ≡ 0) → ¬ (a ≡ 1) → ¬ (a ≡ 2) → ¬ (a ≡ 3) → ¬ (a ≡ 4) → a ≡ 5
-last-of-six a h n0 n1 n2 n3 n4 = omega arith

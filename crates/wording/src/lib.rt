@@ -13,12 +13,17 @@ ghost use Rattle.form.specs.Promises.{most_text};
 ghost use Rattle.wording.specs.Wording.{begins_set, sets_up_to, when_of, making_of};
 ghost use Rattle.wording.specs.Parts.{member_text, set_text, variable_text, side_text, operator_text};
 
-use patterns::Pattern;
+use patterns::{AMOUNT, Pattern, WITH_CONSTANT};
 
 // The longest text of a pattern.
 pub const MOST_TEXT: usize = 1017;
 
 const FIRST_LETTER: u8 = b'a';
+
+// The words of the attributes, and those of the operators between two spaces, by their numbers.
+const ATTRIBUTES: [&[u8]; 6] = [b"core", b"type", b"class", b"slot", b"amount", b"wave"];
+
+const OPERATORS: [&[u8]; 6] = [b" = ", b" < ", b" <= ", b" > ", b" >= ", b" != "];
 
 // Variable v of a set line, behind a space.
 fn put_member(p: Pattern, v: usize, text: &mut [u8], at: usize) -> usize
@@ -39,10 +44,7 @@ fn begins_set(p: Pattern, v: usize) -> bool
     requires { (p.n ≤ most_variables) × (v < p.n) }
     ensures { result ≡ begins_set p v }
 {
-    if v == 0 {
-        return true;
-    }
-    p.sets[v] != p.sets[v - 1]
+    v == 0 || p.sets[v] != p.sets[v - 1]
 }
 
 // The beginning of a set line, behind the line before it.
@@ -51,9 +53,10 @@ fn put_set(v: usize, text: &mut [u8], at: usize) -> usize
     ensures { Put text.old text.new at (set_text v) result × (result ≤ at + 4) }
 {
     if v == 0 {
-        return numbers::put_word(text, at, b"set");
+        numbers::put_word(text, at, b"set")
+    } else {
+        numbers::put_word(text, at, b"\nset")
     }
-    numbers::put_word(text, at, b"\nset")
 }
 
 // Variable v, in a new line where it begins a set.
@@ -63,9 +66,10 @@ fn put_variable(p: Pattern, v: usize, text: &mut [u8], at: usize) -> usize
 {
     if begins_set(p, v) {
         let middle = put_set(v, text, at);
-        return put_member(p, v, text, middle);
+        put_member(p, v, text, middle)
+    } else {
+        put_member(p, v, text, at)
     }
-    put_member(p, v, text, at)
 }
 
 // The set lines.
@@ -74,35 +78,19 @@ fn put_sets(p: Pattern, text: &mut [u8]) -> usize
     ensures { Put text.old text.new 0 (flat_map set_line (sets_up_to p p.n)) result × (result ≤ 68) }
 {
     let mut end = 0;
-    let mut v = 0;
-    while v < p.n {
+    for v in 0..p.n {
         end = put_variable(p, v, text, end);
-        v += 1;
     }
     text[end] = b'\n';
     end + 1
 }
 
+// The word of an attribute.
 fn put_attribute(attribute: u8, text: &mut [u8], at: usize) -> usize
     requires { (attribute ≤ last_attribute) × (at + 6 ≤ length text.old) }
     ensures { Put text.old text.new at (attribute_word attribute) result × (result ≤ at + 6) }
 {
-    if attribute == 0 {
-        return numbers::put_word(text, at, b"core");
-    }
-    if attribute == 1 {
-        return numbers::put_word(text, at, b"type");
-    }
-    if attribute == 2 {
-        return numbers::put_word(text, at, b"class");
-    }
-    if attribute == 3 {
-        return numbers::put_word(text, at, b"slot");
-    }
-    if attribute == 4 {
-        return numbers::put_word(text, at, b"amount");
-    }
-    numbers::put_word(text, at, b"wave")
+    numbers::put_word(text, at, ATTRIBUTES[attribute as usize])
 }
 
 // An operator, between two spaces.
@@ -110,22 +98,7 @@ fn put_operator(operator: u8, text: &mut [u8], at: usize) -> usize
     requires { (operator ≤ last_operator) × (at + 4 ≤ length text.old) }
     ensures { Put text.old text.new at (operator_text operator) result × (result ≤ at + 4) }
 {
-    if operator == 0 {
-        return numbers::put_word(text, at, b" = ");
-    }
-    if operator == 1 {
-        return numbers::put_word(text, at, b" < ");
-    }
-    if operator == 2 {
-        return numbers::put_word(text, at, b" <= ");
-    }
-    if operator == 3 {
-        return numbers::put_word(text, at, b" > ");
-    }
-    if operator == 4 {
-        return numbers::put_word(text, at, b" >= ");
-    }
-    numbers::put_word(text, at, b" != ")
+    numbers::put_word(text, at, OPERATORS[operator as usize])
 }
 
 // An attribute of a variable.
@@ -145,10 +118,7 @@ fn put_constant(attribute: u8, constant: u32, text: &mut [u8], at: usize) -> usi
     ensures { Put text.old text.new at (integer (constant_value attribute constant)) result
         × (result ≤ at + 11) }
 {
-    if attribute != 4 {
-        return numbers::put_number(text, at, constant as u64, 10);
-    }
-    if constant < 2147483648 {
+    if attribute != AMOUNT || constant < 2147483648 {
         return numbers::put_number(text, at, constant as u64, 10);
     }
     text[at] = b'-';
@@ -175,10 +145,11 @@ fn put_operand(p: Pattern, i: usize, text: &mut [u8], at: usize) -> usize
     ensures { Put text.old text.new at (operand_word (when_of (condition_at p i)).right) result
         × (result ≤ at + 11) }
 {
-    if p.forms[i] == 0 {
-        return put_constant(p.attributes[i], p.constants[i], text, at);
+    if p.forms[i] == WITH_CONSTANT {
+        put_constant(p.attributes[i], p.constants[i], text, at)
+    } else {
+        put_side(p.variables2[i], p.attributes2[i], text, at)
     }
-    put_side(p.variables2[i], p.attributes2[i], text, at)
 }
 
 // The when lines.
@@ -188,10 +159,8 @@ fn put_whens(p: Pattern, text: &mut [u8], at: usize) -> usize
         (flat_map when_line (map (λ i. when_of (condition_at p i)) (upto 0 p.c))) result × (result ≤ 996) }
 {
     let mut end = at;
-    let mut i = 0;
-    while i < p.c {
+    for i in 0..p.c {
         end = put_when(p, i, text, end);
-        i += 1;
     }
     end
 }

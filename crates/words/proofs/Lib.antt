@@ -1,5 +1,4 @@
-pub mod Sameness
 pub mod Rows
 pub mod Numerals
-pub mod Constants
 pub mod Sides
+pub mod Constants

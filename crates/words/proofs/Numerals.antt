@@ -1,7 +1,6 @@
 -- A word of decimal digits, read from the first to the last, is the number that they stand for; any other word is
 -- none. Assumes nothing.
 use mathlib.Core.Path.{◌≡◌, ap, ◌∙◌, subst}
-use mathlib.Core.Bool.{true, false}
 use mathlib.Core.List.{List, ◌∷◌, [], ◌++◌}
 use Prim.Native.Nat.{ℕ, ◌+◌, ◌-◌, ◌*◌, ◌≤◌, ◌<◌, min}
 use native.Mathlib.Numerals.{add-one}
@@ -20,8 +19,7 @@ use Rattle.numbers.proofs.Value.{
   decimal-positive,
   decimal-no-zero,
 }
-use Rattle.words.specs.Words.{NaturalOf, large}
-use Rattle.words.specs.declared.Digits.{Digits}
+use Rattle.words.specs.Words.{Counts, large}
 
 -- what is known once the first i bytes are read as digits
 pub record Read (word : List ℕ) (i sum : ℕ) : Type 0 where
@@ -32,32 +30,19 @@ pub record Read (word : List ℕ) (i sum : ℕ) : Type 0 where
   pub total : sum ≡ min (value (take i word)) large
 
 module _ (word : List ℕ) where
-  -- a word that no number is
-  natural-none :
-      (r : Digits) → r ≡ record { ok = false; value = 0 } → ((n : ℕ) → ¬ (decimal n ≡ word)) → NaturalOf word r
-  natural-none r e f = NaturalOf.none f (ap (λ (d : Digits). d.ok) e)
+  pub natural-empty : length word ≡ 0 → (n : ℕ) → ¬ (decimal n ≡ word)
+  natural-empty h n d =
+      let p = decimal-positive n in let q : length (decimal n) ≡ length word = ap length d in omega arith
 
-  pub natural-empty : (r : Digits) → r ≡ record { ok = false; value = 0 } → length word ≡ 0 → NaturalOf word r
-  natural-empty r e h =
-      natural-none r e
-      (λ n d. let p = decimal-positive n in let q : length (decimal n) ≡ length word = ap length d in omega arith)
-
-  pub natural-zero :
-      (r : Digits) → r ≡ record { ok = false; value = 0 } → 1 < length word → get_or word 0 0 ≡ 48 → NaturalOf word r
-  natural-zero r e h z =
-      natural-none r e
-      (λ n d.
+  pub natural-zero : 1 < length word → get_or word 0 0 ≡ 48 → (n : ℕ) → ¬ (decimal n ≡ word)
+  natural-zero h z n d =
       let q : length (decimal n) ≡ length word = ap length d in
-      decimal-no-zero n (omega arith) (ap (λ (l : List ℕ). get_or l 0 0) d ∙ z))
+      decimal-no-zero n (omega arith) (ap (λ (l : List ℕ). get_or l 0 0) d ∙ z)
 
-  pub natural-other :
-      (r : Digits) (k : ℕ) → r ≡ record { ok = false; value = 0 } → k < length word → ¬ Digit (get_or word k 0)
-      → NaturalOf word r
-  natural-other r k e h f =
-      natural-none r e
-      (λ n d.
+  pub natural-other : (k : ℕ) → k < length word → ¬ Digit (get_or word k 0) → (n : ℕ) → ¬ (decimal n ≡ word)
+  natural-other k h f n d =
       let q : length (decimal n) ≡ length word = ap length d in
-      f (subst (λ (l : List ℕ). Digit (get_or l k 0)) d ((decimal-digits n).each k (omega arith))))
+      f (subst (λ (l : List ℕ). Digit (get_or l k 0)) d ((decimal-digits n).each k (omega arith)))
 
   pub read_none : 0 < length word → (1 < length word → ¬ (get_or word 0 0 ≡ 48)) → Read word 0 0
   read_none s f =
@@ -89,13 +74,10 @@ module _ (word : List ℕ) where
             rw t (omega arith);
       }
 
-  pub natural-read :
-      (r : Digits) (i sum : ℕ) → Read word i sum → length word ≤ i → r ≡ record { ok = true; value = sum }
-      → NaturalOf word r
-  natural-read r i sum known h e =
-      NaturalOf.found (value word)
-      (decimal-value word known.some (record { each = λ k l. known.each k (omega arith) }) known.front)
-      (ap (λ (d : Digits). d.ok) e)
-      (ap (λ (d : Digits). d.value) e
-      ∙ known.total
-      ∙ ap (λ (l : List ℕ). min (value l) large) (take_all i word h))
+  pub natural-read : (i sum : ℕ) → Read word i sum → length word ≤ i → Counts word sum
+  natural-read i sum known h =
+      record {
+        number = value word;
+        digits = decimal-value word known.some (record { each = λ k l. known.each k (omega arith) }) known.front;
+        small = known.total ∙ ap (λ (l : List ℕ). min (value l) large) (take_all i word h);
+      }

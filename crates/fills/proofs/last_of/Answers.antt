@@ -1,17 +1,15 @@
 -- `fills::last_of` meets its contract: nothing is bound, or the latest binding tells. Assumes nothing.
-use mathlib.Core.Path.{◌≡◌, sym, ap, ◌∙◌}
-use Prim.Native.Nat.{ℕ, ◌+◌, ◌-◌, ◌≤◌}
-use native.Mathlib.Omega.{arith}
+use Rattle.std.proofs.Common.{◌≡◌, sym, ap, ◌∙◌, ◌+◌, ◌-◌, ◌≤◌, ℕ, arith}
 use Rattle.slots.specs.Slots.{count_in}
+use Rattle.firing.proofs.Slots.{binding_at}
 use Rattle.fills.proofs.OrderMark.{up-to-none, up-to-latest}
 use Rattle.fills.proofs.last_of.Goals as goal
 
-pub returns-then-count-eq0 : goal.returns-then-count-eq0
-returns-then-count-eq0 c = let a = c.args in
-    sym (up-to-none a.slot.now (sym c.count_of-count.ensures ∙ c.if-count-eq0.true))
+pub returns-in-0 : goal.returns-in-0
+returns-in-0 c = sym (up-to-none c.args.slot.now (sym c.count_of.ensures ∙ c.in-0.is))
 
-pub returns : goal.returns
-returns c = let a = c.args in
-    let some : 1 ≤ count_in a.slot.now = omega (arith, c.count_of-count.ensures, c.if-count-eq0.false) in
-    let at : c.binding_record.result ≡ (Rattle.firing.proofs.Slots.binding_at a.slot.now (count_in a.slot.now - 1)).at = cc in
-    ap (λ (x : ℕ). x + 1) at ∙ sym (up-to-latest a.slot.now some)
+pub returns-in_default : goal.returns-in_default
+returns-in_default c =
+    let some : 1 ≤ count_in c.args.slot.now = omega arith in
+    let at : c.binding_record.result ≡ (binding_at c.args.slot.now (count_in c.args.slot.now - 1)).at = cc in
+    ap (λ (x : ℕ). x + 1) at ∙ sym (up-to-latest c.args.slot.now some)

@@ -1,10 +1,6 @@
 -- `firing::is_later` meets its contract: there is no order mark, nothing is bound, or the latest binding decides.
 -- Assumes nothing.
-use mathlib.Core.Path.{◌≡◌, ◌∙◌, sym, ap, ap₂}
-use mathlib.Core.Bool.{true, false}
-use Prim.Native.Nat.{ℕ, ◌-◌, ◌≤◌, ◌<◌}
-use native.Mathlib.Omega.{arith}
-use lib.Dec.{ltb}
+use Rattle.std.proofs.Common.{arith, ◌≡◌, ◌∙◌, true, false, sym, ap, ap₂, ℕ, ◌-◌, ◌≤◌, ◌<◌, ltb}
 use Rattle.numbers.specs.Bits.{disjoint}
 use Rattle.records.specs.Records.{record_at}
 use Rattle.slots.specs.Slots.{count_in, state_in}
@@ -19,19 +15,19 @@ returns-then-not-is_disjoint c = let a = c.args in
 
 pub returns-then-count-eq0 : goal.returns-then-count-eq0
 returns-then-count-eq0 c = let a = c.args in
-    sym (later-empty a.plan.now a.block.now a.slot.now a.i a.v (sym c.count_of-count.ensures ∙ c.if-count-eq0.true))
+    rw c.if-count-eq0.true (sym (later-empty a.plan.now a.block.now a.slot.now a.i a.v (sym c.count_of-count.ensures ∙ c.if-count-eq0.true)))
 
 pub time_at-requires : goal.time_at-requires
-time_at-requires c = let a = c.args in
-    let fit = c.requires.0 in
-    let some : count_in a.slot.now - 1 < count_in a.slot.now = omega arith in
-    let at : c.binding_record-latest.result ≡ (binding_at a.slot.now (count_in a.slot.now - 1)).at = cc in
-    omega (arith, fit.seated.in_block (binding_at a.slot.now (count_in a.slot.now - 1)) (binding-among a.slot.now (count_in a.slot.now) (count_in a.slot.now - 1) some))
+time_at-requires c = let slot = c.args.slot.now in
+    let latest = count_in slot - 1 in
+    let some : latest < count_in slot = omega arith in
+    let at : c.binding_record.result ≡ (binding_at slot latest).at = cc in
+    omega (arith, c.requires.0.seated.in_block (binding_at slot latest) (binding-among slot (count_in slot) latest some))
 
-pub returns : goal.returns
-returns c = let a = c.args in
+pub returns-else-count-eq0 : goal.returns-else-count-eq0
+returns-else-count-eq0 c = let a = c.args in
     let e : disjoint (state_in a.slot.now) (marks_in a.plan.now a.v) ≡ true = cc (c.if-not-is_disjoint.false) in
     let some : 1 ≤ count_in a.slot.now = omega arith in
-    let at : c.binding_record-latest.result ≡ (binding_at a.slot.now (count_in a.slot.now - 1)).at = cc in
-    ap₂ ltb (c.time_at.ensures ∙ ap (λ (j : ℕ). (record_at a.block.now j).time) at) c.time_at-2.ensures
+    let at : c.binding_record.result ≡ (binding_at a.slot.now (count_in a.slot.now - 1)).at = cc in
+    ap₂ ltb (c.time_at.ensures ∙ ap (λ (j : ℕ). (record_at a.block.now j).time) at) c.time_at-else-count-eq0.ensures
     ∙ sym (later-latest a.plan.now a.block.now a.slot.now a.i a.v e some)

@@ -1,59 +1,34 @@
 -- `forward::close_all` meets its contract: the lines of the full ones, slot by slot. Assumes nothing.
-use mathlib.Core.Path.{◌≡◌}
-use Prim.Native.Nat.{◌+◌, ◌*◌}
-use native.Mathlib.Omega.{arith}
+use Rattle.std.proofs.Common.{◌+◌, ◌*◌, arith}
+use Rattle.std.proofs.lemmas.Result.{err_from_is_err_and}
 use Rattle.slots.specs.Slots.{slot_bytes, slot_at}
-use Rattle.live.specs.Flags.{is_set}
+use Rattle.slots.specs.Results.{mark_number}
 use Rattle.live.proofs.Parts.{part-slot, length-slot_at}
 use Rattle.live.proofs.TooLong.{slots-short, short-count}
-use Rattle.forward.proofs.Lines.{wrote-start, wrote-turn}
+use Rattle.forward.proofs.Lines.{wrote-start, wrote-turn, wrote-cut}
 use Rattle.forward.proofs.close_all.Goals as goal
 
 pub loop-k-init : goal.loop-k-init
-loop-k-init c = let s = c in
-    let a = s.args in
-    (omega arith, wrote-start a.res.now a.work.now a.tell.used a.tell.readings (is_set a.tell.short) a.full a.mark a.src s.requires.3 s.requires.4)
+loop-k-init c = let a = c.args in
+    wrote-start a.res.now a.work.now a.tell.used a.tell.readings a.full (mark_number a.mark) a.src c.requires.2 c.requires.3
 
-pub overflow_mul-at : goal.overflow_mul-at
-overflow_mul-at c = omega arith
-
-pub overflow_add-at : goal.overflow_add-at
-overflow_add-at c = omega arith
-
-pub overflow_add-end : goal.overflow_add-end
-overflow_add-end c = omega arith
-
-pub slice_bounds-close_one-count : goal.slice_bounds-close_one-count
-slice_bounds-close_one-count c = omega arith
-
-pub close_one-told-requires : goal.close_one-told-requires
-close_one-told-requires c = let l = c in
-    let s = l in
-    let a = s.args in
-    let e = part-slot a.work.now (a.src + slot_bytes * l.loop-k.k) in (
-      rw e (length-slot_at a.work.now (a.src + slot_bytes * l.loop-k.k) (omega arith)),
-      rw e (short-count (slot_at a.work.now (a.src + slot_bytes * l.loop-k.k)) (slots-short a.work.now a.src a.count l.loop-k.k s.requires.1 (omega arith))),
-      s.requires.2,
-      l.loop-k.invariant.1.room,
-      l.loop-k.invariant.1.few,
+pub close_one-requires : goal.close_one-requires
+close_one-requires c = let a = c.args in
+    let at = a.src + slot_bytes * c.loop-k.k in
+    let e = part-slot a.work.now at in (
+      rw e (length-slot_at a.work.now at (omega arith)),
+      rw e (short-count (slot_at a.work.now at) (slots-short a.work.now a.src a.count c.loop-k.k c.requires.1 (omega arith))),
+      c.loop-k.invariant.room,
+      c.loop-k.invariant.few,
     )
 
-pub overflow_add-k : goal.overflow_add-k
-overflow_add-k c = omega arith
-
-pub loop-k-smaller : goal.loop-k-smaller
-loop-k-smaller c = omega arith
-
 pub loop-k-preserved : goal.loop-k-preserved
-loop-k-preserved c = let o = c in
-    let l = o in
-    let a = l.args in
-    (omega arith, wrote-turn a.work.now a.full a.mark a.src l.loop-k.k _ (part-slot a.work.now (a.src + slot_bytes * l.loop-k.k)) l.loop-k.invariant.1 o.close_one-told.ensures)
+loop-k-preserved c = let a = c.args in
+    wrote-turn a.work.now a.full (mark_number a.mark) a.src c.loop-k.k (part-slot a.work.now (a.src + slot_bytes * c.loop-k.k)) c.loop-k.invariant c.in_ok-told.ensures
 
-pub shape_of-res : goal.shape_of-res
-shape_of-res c = c.loop-k.invariant.1.size
-
-pub returns : goal.returns
-returns c = let l = c in
-    let e : l.loop-k.k ≡ l.args.count = omega arith in
-    rw e at l.loop-k.invariant.1
+pub returns-in_err-told : goal.returns-in_err-told
+returns-in_err-told c = let a = c.args in
+    let same = err_from_is_err_and c.from_residual.result c.from_residual.ensures.1 in
+    let told = c.in_err-told.ensures in
+    rw (same.1, same.2)
+    (told.0, wrote-cut a.work.now a.full (mark_number a.mark) a.src a.count c.loop-k.k (part-slot a.work.now (a.src + slot_bytes * c.loop-k.k)) c.loop-k-test.true c.loop-k.invariant told.1)

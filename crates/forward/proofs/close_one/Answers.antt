@@ -1,17 +1,13 @@
 -- `forward::close_one` meets its contract: a line for a full reading, none for another. Assumes nothing.
-use mathlib.Core.Path.{sym, ◌∙◌}
-use Rattle.live.specs.Flags.{is_set}
-use Rattle.forward.proofs.Lines.{wrote-full, wrote-part}
+use Rattle.std.proofs.Common.{sym}
+use Rattle.slots.specs.Results.{mark_number}
+use Rattle.forward.proofs.Lines.{reported-full, wrote-part}
 use Rattle.forward.proofs.close_one.Goals as goal
 
 pub returns-then-is_within : goal.returns-then-is_within
-returns-then-is_within c = let w = c in
-    let s = w in
-    let a = s.args in
-    wrote-full a.full a.mark a.slot.now w.state_of.result w.state_of.ensures (sym w.is_within.ensures ∙ c.if-is_within.true) c.tell_one.ensures
+returns-then-is_within c = let a = c.args in
+    reported-full a.res.now c.tell_one.new.res a.tell c.tell_one.result a.full (mark_number a.mark) a.slot.now c.state_of.result c.state_of.ensures (sym c.if-is_within.ensures) c.tell_one.ensures
 
-pub returns : goal.returns
-returns c = let w = c in
-    let s = w in
-    let a = s.args in
-    wrote-part a.res.now a.tell.used a.tell.readings (is_set a.tell.short) a.full a.mark a.slot.now w.state_of.result w.state_of.ensures (sym w.is_within.ensures ∙ c.if-is_within.false) s.requires.3 s.requires.4
+pub returns-else-is_within : goal.returns-else-is_within
+returns-else-is_within c = let a = c.args in
+    wrote-part a.res.now a.tell.used a.tell.readings a.full (mark_number a.mark) a.slot.now c.state_of.result c.state_of.ensures (sym c.if-is_within.ensures) c.requires.2 c.requires.3

@@ -1,32 +1,20 @@
 -- `forward::tell_one` meets its contract: one line more, or the room is short. Assumes nothing.
-use mathlib.Core.Path.{◌≡◌}
-use Prim.Native.Nat.{◌+◌, ◌*◌}
-use native.Mathlib.Omega.{arith}
-use mathlib.Core.List.{[], ◌∷◌}
-use lib.ListN.{length}
-use Rattle.rule.specs.Computed.{line}
+use Rattle.std.proofs.Common.{◌≡◌, ℕ, ◌+◌, ◌*◌, refl, ap, ◌∙◌, length, arith}
+use Rattle.numbers.specs.Numbers.{bytes_of, written}
 use Rattle.slots.specs.Slots.{held_in}
+use Rattle.slots.specs.Results.{mark_number, line_numbers}
 use Rattle.slots.proofs.Slots.{length-held_in}
-use Rattle.live.specs.Flags.{is_set}
-use Rattle.live.proofs.Flags.{flag-set, flag-clear}
-use Rattle.forward.proofs.Lines.{wrote-still, wrote-short, wrote-fits}
+use Rattle.forward.proofs.Lines.{wrote-short, wrote-fits}
 use Rattle.forward.proofs.tell_one.Goals as goal
 
-pub returns-then-tell-ne0 : goal.returns-then-tell-ne0
-returns-then-tell-ne0 c = let s = c in
-    let a = s.args in
-    wrote-still a.res.now a.tell.used a.tell.readings (is_set a.tell.short) (line a.mark (held_in a.slot.now).bindings ∷ []) (flag-set a.tell.short c.if-tell-ne0.true) s.requires.3 s.requires.4
-
 pub returns-then-res-end : goal.returns-then-res-end
-returns-then-res-end c = let s = c in
-    let a = s.args in
-    wrote-short a.res.now a.tell.used a.tell.readings (is_set a.tell.short) a.mark (held_in a.slot.now).bindings (flag-clear a.tell.short c.if-tell-ne0.false) s.requires.3 s.requires.4 (omega (arith, length-held_in a.slot.now))
+returns-then-res-end c = let a = c.args in
+    (refl, wrote-short a.res.now a.tell.used a.tell.readings (mark_number a.mark) (held_in a.slot.now).bindings (omega (arith, length-held_in a.slot.now)))
 
 pub returns : goal.returns
-returns c = let p = c in
-    let n = p.count_of in
-    let s = p in
-    let a = s.args in
+returns c = let a = c.args in
     let e = length-held_in a.slot.now in
-    let m : a.tell.used + 2 + 2 * n.result ≡ a.tell.used + 2 + 2 * length (held_in a.slot.now).bindings = omega arith in
-    rw m (wrote-fits a.res.now p.put_line.new.res a.tell.used a.tell.readings (is_set a.tell.short) a.mark (held_in a.slot.now).bindings (flag-clear a.tell.short p.if-tell-ne0.false) s.requires.3 s.requires.4 (omega arith) p.put_line.ensures)
+    let m : a.tell.used + 2 + 2 * c.count_of.result ≡ a.tell.used + 2 + 2 * length (held_in a.slot.now).bindings = omega arith in
+    let put = ap (λ (k : ℕ). written a.res.now a.tell.used (bytes_of (line_numbers k (held_in a.slot.now).bindings))) c.number.ensures.0 in
+    rw m
+    (wrote-fits a.res.now c.put_line.new.res a.tell.used a.tell.readings (mark_number a.mark) (held_in a.slot.now).bindings c.requires.2 c.requires.3 (omega arith) (c.put_line.ensures ∙ put))

@@ -1,40 +1,25 @@
 -- `index::events_by` meets its contract. Assumes nothing.
-use mathlib.Core.Path.{sym}
-use native.Mathlib.Omega.{arith}
+use Rattle.std.proofs.Common.{sym, arith}
 use Rattle.index.proofs.Fields.{events-above, events-0, events-1, events-2, events-3, events-4, events-5}
 use Rattle.index.proofs.events_by.Goals as goal
 
-pub returns-then-class-gt-LAST_CLASS : goal.returns-then-class-gt-LAST_CLASS
-returns-then-class-gt-LAST_CLASS c = sym (events-above _ _ c.if-class-gt-LAST_CLASS.true)
+pub returns-in-0 : goal.returns-in-0
+returns-in-0 c = events-0 _ _ c.number8-high.result c.number2-low.result c.number8-high.ensures c.number2-low.ensures (omega arith) (omega arith) c.in-0.is
 
-pub returns-then-class-eq0 : goal.returns-then-class-eq0
-returns-then-class-eq0 c = let low = c.number2-low in
-    let high = c.number8-high in
-    events-0 _ _ high.result low.result high.ensures low.ensures (omega arith) (omega arith) c.if-class-eq0.true
+pub returns-in-1 : goal.returns-in-1
+returns-in-1 c = events-1 _ _ c.number8-high.result c.number2-low.result c.number8-high.ensures c.number2-low.ensures (omega arith) (omega arith) c.in-1.is
 
-pub returns-then-class-eq1 : goal.returns-then-class-eq1
-returns-then-class-eq1 c = let low = c.number2-low in
-    let high = c.number8-high in
-    events-1 _ _ high.result low.result high.ensures low.ensures (omega arith) (omega arith) c.if-class-eq1.true
+pub returns-in-2 : goal.returns-in-2
+returns-in-2 c = events-2 _ _ c.number8-high.result c.number2-low.result c.number8-high.ensures c.number2-low.ensures (omega arith) (omega arith) c.in-2.is
 
-pub returns-then-class-eq2 : goal.returns-then-class-eq2
-returns-then-class-eq2 c = let low = c.number2-low in
-    let high = c.number8-high in
-    events-2 _ _ high.result low.result high.ensures low.ensures (omega arith) (omega arith) c.if-class-eq2.true
+pub returns-in-3 : goal.returns-in-3
+returns-in-3 c = events-3 _ _ c.number8-high.result c.number2-low.result c.number8-high.ensures c.number2-low.ensures (omega arith) (omega arith) c.in-3.is
 
-pub returns-then-class-eq3 : goal.returns-then-class-eq3
-returns-then-class-eq3 c = let low = c.number2-low in
-    let high = c.number8-high in
-    events-3 _ _ high.result low.result high.ensures low.ensures (omega arith) (omega arith) c.if-class-eq3.true
+pub returns-in-4 : goal.returns-in-4
+returns-in-4 c = events-4 _ _ c.number8-high.result c.number2-low.result c.number8-high.ensures c.number2-low.ensures (omega arith) (omega arith) c.in-4.is
 
-pub returns-then-class-eq4 : goal.returns-then-class-eq4
-returns-then-class-eq4 c = let low = c.number2-low in
-    let high = c.number8-high in
-    events-4 _ _ high.result low.result high.ensures low.ensures (omega arith) (omega arith) c.if-class-eq4.true
+pub returns-in-5 : goal.returns-in-5
+returns-in-5 c = events-5 _ _ c.number8-high.result c.number2-low.result c.number8-high.ensures c.number2-low.ensures (omega arith) (omega arith) c.in-5.is
 
-pub returns : goal.returns
-returns c = let low = c.number2-low in
-    let high = c.number8-high in
-    events-5 _ _ high.result low.result high.ensures low.ensures (omega arith) (omega arith)
-    c.if-class-eq0.false c.if-class-eq1.false c.if-class-eq2.false
-    c.if-class-eq3.false c.if-class-eq4.false (omega arith)
+pub returns-in_default : goal.returns-in_default
+returns-in_default c = sym (events-above _ _ (omega arith))

@@ -1,19 +1,16 @@
 -- `lines::put_line` meets its contract: mark, bindings, line feed. Assumes nothing.
-use mathlib.Core.Path.{◌∙◌}
-use native.Mathlib.Omega.{arith}
-use lib.ListN.{length-set}
+use Rattle.std.proofs.Common.{arith}
 use Rattle.numbers.proofs.Put.{put_byte}
 use Rattle.lines.proofs.Lines.{line-put}
 use Rattle.lines.proofs.put_line.Goals as goal
 
-pub shape_of-text : goal.shape_of-text
-shape_of-text c = let e = c.put_bindings-end in
-    let m = c.put_number-middle in
-    simp length-set (e.ensures.0.kept ∙ m.ensures.0.kept)
-
 pub returns : goal.returns
-returns c = let a = c.args in
-    let e = c.put_bindings-end in
-    let m = c.put_number-middle in
+returns c =
+    let a = c.args in
     let n = c.number2-head in
-    (line-put a.text.now m.new.text e.new.text _ a.res.now a.at a.from m.result e.result _ n.result n.ensures m.ensures.0 e.ensures.0 (put_byte e.new.text e.result 10 (omega arith)), omega arith)
+    let m = c.put_number-middle in
+    let e = c.put_bindings-end in (
+      line-put a.text.now m.new.text e.new.text _ a.res.now a.at a.from m.result e.result _ n.result n.ensures m.ensures.0
+          e.ensures.0 (put_byte e.new.text e.result 10 (omega arith)),
+      omega arith,
+    )

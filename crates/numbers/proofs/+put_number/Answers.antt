@@ -1,21 +1,25 @@
--- `numbers::put_number` meets its contract: the digits of a tenth of the number, and the last digit. Assumes nothing.
-use native.Mathlib.Omega.{arith}
+-- The digits of a tenth of the number, if it has more than one, and the last digit.
+use Rattle.std.proofs.Common.{◌≡◌, ◌%◌, arith}
 use Rattle.numbers.proofs.Decimal.{put-digit, put-last-digit, places-left}
 use Rattle.numbers.proofs.+put_number.Goals as goal
+use Rattle.numbers.proofs.+put_number.Goals.{then-n-lt10, else-n-lt10}
 
-pub returns-then-n-lt10 : goal.returns-then-n-lt10
-returns-then-n-lt10 t c =
-    let a = c.args in
-    (put-digit a.text.now a.at a.n c.if-n-lt10.true (omega arith), omega arith)
-
-pub put_number-end-requires : goal.put_number-end-requires
-put_number-end-requires t c =
-    let a = c.args in
-    let left = places-left a.places a.n c.requires.0 c.if-n-lt10.false c.requires.1 in
+pub put_number-last-requires : goal.put_number-last-requires
+put_number-last-requires t c =
+    let left = places-left c.args.places c.args.n c.requires.0 c.if-n-lt10.false c.requires.1 in
     (omega arith, (left.0, left.1, omega arith))
+
+pub bounds-text-last : goal.bounds-text-last
+bounds-text-last t c = elim c.if-n-lt10.branch [ then-n-lt10 w ↦ omega arith | else-n-lt10 w ↦ omega arith ]
 
 pub returns : goal.returns
 returns t c =
-    let a = c.args in
-    let e = c.put_number-end in
-    (put-last-digit a.text.now e.new.text a.at e.result a.n c.if-n-lt10.false e.ensures.0 (omega (arith, e.ensures.0.kept)), omega arith)
+    elim c.if-n-lt10.branch [
+      | then-n-lt10 w ↦
+          let one : c.args.n % 10 ≡ c.args.n = omega arith in
+          rw (w.text-is, w.last-is, one) (put-digit _ c.args.at c.args.n w.if-n-lt10.true (omega arith), omega arith)
+      | else-n-lt10 w ↦
+          let more = w.put_number-last.ensures.0 in
+          rw (w.text-is, w.last-is)
+          (put-last-digit _ _ c.args.at _ c.args.n w.if-n-lt10.false more (omega (arith, more.kept)), omega arith)
+    ]

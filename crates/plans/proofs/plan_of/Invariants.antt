@@ -1,13 +1,7 @@
--- `plans::plan_of` meets its contract. The loop's invariant: the places passed are filled, and give the conditions
--- back. Assumes nothing.
-use mathlib.Core.Path.{◌≡◌}
-use Prim.Native.Nat.{◌-◌, ◌≤◌}
-use Rattle.plans.specs.Plan.{plan_room, plan_up_to}
-use Rattle.plans.proofs.Plans.{Backs}
+-- `plans::plan_of` meets its contract. The loop's invariant: the places passed are filled. Assumes nothing.
+use Rattle.std.proofs.Common.{ℕ, ◌≡◌, ◌<◌, length, get_or}
+use Rattle.plans.specs.Plan.{plan_room, Placed}
 use Rattle.plans.proofs.plan_of.Given as goal
 
 abbrev pub invariant-loop-at : goal.invariant-loop-at
-invariant-loop-at l = (l.at ≤ plan_room) × (l.plan ≡ plan_up_to l.p l.at) × Backs l.p l.at
-
-abbrev pub decreases-loop-at : goal.decreases-loop-at
-decreases-loop-at l = plan_room - l.at
+invariant-loop-at l = (length l.number-items ≡ plan_room) × ((k : ℕ) → k < l.at → Placed l.p k (get_or l.number-items k 0))

@@ -1,95 +1,74 @@
--- `reach::firing_of` meets its contract. The loop's invariant: what is found so far and what the variables left will
--- give make the whole. Assumes nothing.
-use native.Mathlib.Nat.{zero-mul}
-use native.Mathlib.Omega.{arith}
-use mathlib.Core.Path.{sym, ap, ◌∙◌}
-use mathlib.Core.Bool.{Bool, ◌&&◌, and-true, and-false}
-use Prim.Native.Nat.{ℕ, ◌*◌, ◌^◌}
+-- `reach::firing_of` meets its contract. Assumes nothing.
+use Rattle.std.proofs.Common.{Bool, true, false, ◌&&◌, List, ℕ, ◌+◌, ◌-◌, ◌*◌, ◌^◌, ◌<◌, ◌≤◌, ◌≡◌, ◌∙◌, sym, ap, arith}
+use mathlib.Core.Bool.{and-true, and-false}
+use lib.Pow.{pow_mono}
 use Rattle.numbers.specs.Numbers.{one_if}
+use Rattle.numbers.proofs.Count.{one_if-bound}
+use Rattle.numbers.specs.Bits.{bit, IsLowestBit}
 use Rattle.patterns.specs.Patterns.{most_variables}
-use Rattle.slots.specs.Slots.{held_in}
-use Rattle.firing.specs.Firing.{later_by}
+use Rattle.slots.specs.Slots.{Held, held_in}
+use Rattle.firing.specs.Firing.{agrees_by}
 use Rattle.reach.specs.Readings.{agreeing_by}
-use Rattle.reach.proofs.MaskInTurn.{low_bits, rest-less}
+use Rattle.reach.proofs.MaskInTurn.{low_bits}
 use Rattle.reach.proofs.Masks.{agreeing-none, agreeing-bound, agreeing-lowest}
 use Rattle.reach.proofs.firing_of.Goals as goal
+use Rattle.reach.proofs.firing_of.Goals.{then-joins_hold, else-joins_hold}
 
-pub loop-rest-init : goal.loop-rest-init
-loop-rest-init c = (c.requires.0, omega arith)
-
-pub without_bit-rest-requires : goal.without_bit-rest-requires
-without_bit-rest-requires c = c.lowest_bit-v.ensures.small
-
-pub joins_hold-requires : goal.joins_hold-requires
-joins_hold-requires c = let h = c.loop-rest in
-    let low = c.lowest_bit-v in
-    (c.requires.1, low_bits h.rest most_variables low.result h.invariant.0 low.ensures.here)
-
-pub loop-rest-smaller-then-not-joins_hold : goal.loop-rest-smaller-then-not-joins_hold
-loop-rest-smaller-then-not-joins_hold c = let h = c.loop-rest in
-    let low = c.lowest_bit-v in
-    let less = rest-less h.rest low.result 64 (omega (arith, c.loop-rest-test.true)) low.ensures in
-    let is = c.without_bit-rest.ensures in
-    omega arith
-
-pub loop-rest-preserved-then-not-joins_hold : goal.loop-rest-preserved-then-not-joins_hold
-unfolding held_in
-loop-rest-preserved-then-not-joins_hold c = let a = c.args in
-    let h = c.loop-rest in
-    let low = c.lowest_bit-v in
-    let v = low.result in
-    let parts = agreeing-lowest a.plan.now a.block.now a.i (held_in a.slot.now) h.rest v h.invariant.0 low.ensures in
-    let whole = h.invariant.1 in
-    let weight = ap (λ (t : Bool). one_if (later_by a.plan.now a.block.now a.i v (held_in a.slot.now) && t) * 2 ^ v) (sym c.joins_hold.ensures ∙ c.if-not-joins_hold.true) ∙ ap (λ (t : Bool). one_if t * 2 ^ v) (and-false (later_by a.plan.now a.block.now a.i v (held_in a.slot.now))) ∙ zero-mul (2 ^ v) in
-    let is = c.without_bit-rest.ensures in
-    let small = h.invariant.0 in
-    let left = ap (λ (x : ℕ). agreeing_by a.plan.now a.block.now a.i x (held_in a.slot.now)) is in
+-- the lowest variable is counted, and the others are left
+turn :
+    (plan bytes : List ℕ) (i : ℕ) (h : Held) (rest v firing whole : ℕ) (agrees : Bool) (weight left : ℕ)
+    → rest < 2 ^ most_variables → IsLowestBit 64 rest v
+    → firing + agreeing_by plan bytes i rest h ≡ agreeing_by plan bytes i whole h
+    → agrees ≡ agrees_by plan bytes i v h → weight ≡ one_if agrees * 2 ^ v
+    → left ≡ rest - one_if (bit rest v) * 2 ^ v
+    → (left < 2 ^ most_variables)
+    × ((firing + weight) + agreeing_by plan bytes i left h ≡ agreeing_by plan bytes i whole h)
+turn plan bytes i h rest v firing whole agrees weight left small low known e w l =
+    let parts = agreeing-lowest plan bytes i h rest v small low in
+    let is = w ∙ ap (λ (t : Bool). one_if t * 2 ^ v) e in
+    let rest-is = ap (λ (x : ℕ). agreeing_by plan bytes i x h) l in
     (omega arith, omega arith)
 
-pub is_later-requires : goal.is_later-requires
-is_later-requires c = let h = c.loop-rest in
-    let low = c.lowest_bit-v in
-    (c.requires.1, low_bits h.rest most_variables low.result h.invariant.0 low.ensures.here)
+-- one test after another
+both-hold : (l j l' j' : Bool) → j ≡ j' → j ≡ true → l ≡ l' → l ≡ l' && j'
+both-hold l j l' j' e t f = f ∙ sym (and-true l') ∙ ap (λ (x : Bool). l' && x) (sym t ∙ e)
 
-pub weight_if-firing-requires : goal.weight_if-firing-requires
-weight_if-firing-requires c = c.lowest_bit-v.ensures.small
+one_fails : (j l' j' : Bool) → j ≡ j' → j ≡ false → j ≡ l' && j'
+one_fails j l' j' e t = t ∙ sym (and-false l') ∙ ap (λ (x : Bool). l' && x) (sym t ∙ e)
+
+pub joins_hold-requires : goal.joins_hold-requires
+joins_hold-requires c =
+    let low = c.lowest_bit-v in
+    (c.requires.1, low_bits c.loop-rest.rest most_variables low.result c.loop-rest.invariant.0 low.ensures.here)
+
+pub is_later-agrees-requires : goal.is_later-agrees-requires
+is_later-agrees-requires c =
+    let low = c.lowest_bit-v in
+    (c.requires.1, low_bits c.loop-rest.rest most_variables low.result c.loop-rest.invariant.0 low.ensures.here)
 
 pub overflow_add-firing : goal.overflow_add-firing
-unfolding held_in
-overflow_add-firing c = let a = c.args in
-    let h = c.loop-rest in
+overflow_add-firing c =
+    let a = c.args in
     let low = c.lowest_bit-v in
-    let v = low.result in
-    let parts = agreeing-lowest a.plan.now a.block.now a.i (held_in a.slot.now) h.rest v h.invariant.0 low.ensures in
     let bound = agreeing-bound a.plan.now a.block.now a.i (held_in a.slot.now) a.asked in
-    let whole = h.invariant.1 in
-    let weight = c.weight_if-firing.ensures ∙ ap (λ (t : Bool). one_if t * 2 ^ v) c.is_later.ensures ∙ sym (ap (λ (t : Bool). one_if (later_by a.plan.now a.block.now a.i v (held_in a.slot.now) && t) * 2 ^ v) (sym c.joins_hold.ensures ∙ c.if-not-joins_hold.false) ∙ ap (λ (t : Bool). one_if t * 2 ^ v) (and-true (later_by a.plan.now a.block.now a.i v (held_in a.slot.now)))) in
-    omega arith
-
-pub loop-rest-smaller : goal.loop-rest-smaller
-loop-rest-smaller c = let h = c.loop-rest in
-    let low = c.lowest_bit-v in
-    let less = rest-less h.rest low.result 64 (omega (arith, c.loop-rest-test.true)) low.ensures in
-    let is = c.without_bit-rest.ensures in
+    let most = pow_mono {i = low.result} {j = 63} (omega arith) in
+    let weight : one_if c.if-joins_hold.agrees * 2 ^ low.result ≤ 2 ^ low.result = grind (arith, one_if-bound) in
     omega arith
 
 pub loop-rest-preserved : goal.loop-rest-preserved
 unfolding held_in
-loop-rest-preserved c = let a = c.args in
-    let h = c.loop-rest in
-    let low = c.lowest_bit-v in
-    let v = low.result in
-    let parts = agreeing-lowest a.plan.now a.block.now a.i (held_in a.slot.now) h.rest v h.invariant.0 low.ensures in
-    let whole = h.invariant.1 in
-    let weight = c.weight_if-firing.ensures ∙ ap (λ (t : Bool). one_if t * 2 ^ v) c.is_later.ensures ∙ sym (ap (λ (t : Bool). one_if (later_by a.plan.now a.block.now a.i v (held_in a.slot.now) && t) * 2 ^ v) (sym c.joins_hold.ensures ∙ c.if-not-joins_hold.false) ∙ ap (λ (t : Bool). one_if t * 2 ^ v) (and-true (later_by a.plan.now a.block.now a.i v (held_in a.slot.now)))) in
-    let is = c.without_bit-rest.ensures in
-    let small = h.invariant.0 in
-    let left = ap (λ (x : ℕ). agreeing_by a.plan.now a.block.now a.i x (held_in a.slot.now)) is in
-    (omega arith, omega arith)
+loop-rest-preserved c =
+    let a = c.args in
+    let agrees : c.if-joins_hold.agrees ≡ agrees_by a.plan.now a.block.now a.i c.lowest_bit-v.result (held_in a.slot.now) =
+    elim c.if-joins_hold.branch [
+      | then-joins_hold w ↦ w.agrees-is ∙ both-hold _ _ _ _ c.joins_hold.ensures w.if-joins_hold.true w.is_later-agrees.ensures
+      | else-joins_hold w ↦ w.agrees-is ∙ one_fails _ _ _ c.joins_hold.ensures w.if-joins_hold.false
+    ] in
+    turn _ _ _ _ _ _ _ _ _ _ _ c.loop-rest.invariant.0 c.lowest_bit-v.ensures c.loop-rest.invariant.1 agrees c.weight_if-firing.ensures c.without_bit-rest.ensures
 
 pub returns : goal.returns
-returns c = let a = c.args in
-    let h = c.loop-rest in
-    let none = ap (λ (x : ℕ). agreeing_by a.plan.now a.block.now a.i x (held_in a.slot.now)) c.loop-rest-test.false ∙ agreeing-none a.plan.now a.block.now a.i (held_in a.slot.now) in
-    let whole = h.invariant.1 in
+returns c =
+    let a = c.args in
+    let h = held_in a.slot.now in
+    let none = ap (λ (x : ℕ). agreeing_by a.plan.now a.block.now a.i x h) c.loop-rest-test.false ∙ agreeing-none a.plan.now a.block.now a.i h in
     omega arith

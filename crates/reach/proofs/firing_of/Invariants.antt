@@ -1,7 +1,6 @@
 -- `reach::firing_of` meets its contract. The loop's invariant: what is found so far and what the variables left will
 -- give make the whole. Assumes nothing.
-use mathlib.Core.Path.{◌≡◌}
-use Prim.Native.Nat.{◌+◌, ◌^◌, ◌<◌}
+use Rattle.std.proofs.Common.{◌≡◌, ◌+◌, ◌^◌, ◌<◌}
 use Rattle.patterns.specs.Patterns.{most_variables}
 use Rattle.slots.specs.Slots.{held_in}
 use Rattle.reach.specs.Readings.{agreeing_by}

@@ -7,7 +7,7 @@ use Rattle.spaldep.proofs.spaldep_forward.Goals as goal
 
 pub returns-then-is_unfit : goal.returns-then-is_unfit
 returns-then-is_unfit c = unfit-forward _ _ _ _ _ _ _ _ (c.is_unfit.ensures.bad c.if-is_unfit.true)
-    (c.pack.ensures ∙ ap packed_answer c.unfit_answer.ensures)
+    (c.pack.ensures ∙ ap packed_answer (c.unfit_answer.ensures ∙ c.judge_input.ensures))
     c.clear.ensures
     c.clear-then-is_unfit.ensures
 

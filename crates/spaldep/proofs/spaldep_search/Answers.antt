@@ -8,7 +8,7 @@ use Rattle.spaldep.proofs.spaldep_search.Goals as goal
 pub returns-then-is_unfit : goal.returns-then-is_unfit
 returns-then-is_unfit c =
     unfit-search _ _ _ _ _ _ _ _ _ (c.is_unfit.ensures.bad c.if-is_unfit.true) c.cleared.ensures.1 c.cleared.ensures.2
-    (c.pack.ensures ∙ ap packed_answer (c.cleared.ensures.0 ∙ c.unfit_search-answer.ensures))
+    (c.pack.ensures ∙ ap packed_answer (c.cleared.ensures.0 ∙ c.unfit_answer-answer.ensures ∙ c.judge_search.ensures))
 
 pub returns : goal.returns
 returns c =

@@ -1,26 +1,18 @@
--- `starts::may_exceed` meets its contract: by the block as a whole, by places, or by what can still be bound. Assumes
--- nothing.
-use mathlib.Core.Bool.{true≢false}
+-- `starts::may_exceed`: by the block as a whole, by places, or by what can still be bound. Assumes nothing.
+use Rattle.std.proofs.Common.{sym, ◌∙◌}
 use Rattle.starts.proofs.Cuts.{above-none, above_floor}
 use Rattle.starts.proofs.may_exceed.Goals as goal
+use Rattle.starts.proofs.may_exceed.Goals.{then-s-end, else-s-end}
 
-pub returns-then-end-s : goal.returns-then-end-s
-returns-then-end-s c = let st = c in
-    let a = st.args in
-    let end = c.smaller-end in
-    λ e. above_floor a.plan.now a.block.now a.s a.slot.now a.j st.requires.0.within end.result a.counts.least end.ensures c.if-end-s.true st.requires.2
+pub returns-else-counts-lt-PATIENCE : goal.returns-else-counts-lt-PATIENCE
+returns-else-counts-lt-PATIENCE c =
+    λ e. above-none _ _ _ _ _ c.requires.0.within _ _ c.min-end.ensures (c.can_exceed.ensures e)
 
-pub returns-then-not-has_room : goal.returns-then-not-has_room
-returns-then-not-has_room c = let st = c in
-    let a = st.args in
-    let end = c.smaller-end in
-    λ e. above-none a.plan.now a.block.now a.s a.slot.now a.j st.requires.0.within end.result a.counts.least end.ensures (c.has_room.ensures c.if-not-has_room.true a.plan.now a.block.now)
-
-pub returns-then-counts-lt-PATIENCE : goal.returns-then-counts-lt-PATIENCE
-returns-then-counts-lt-PATIENCE c = λ e. absurd (true≢false e)
-
-pub returns : goal.returns
-returns c = let st = c in
-    let a = st.args in
-    let end = c.smaller-end in
-    λ e. above-none a.plan.now a.block.now a.s a.slot.now a.j st.requires.0.within end.result a.counts.least end.ensures (c.can_exceed.ensures e)
+pub returns-else-has_room : goal.returns-else-has_room
+returns-else-has_room c = let a = c.args in
+    elim c.if-s-end.branch [
+      | then-s-end w ↦ λ e.
+          above-none _ _ _ _ _ c.requires.0.within _ _ c.min-end.ensures
+          (w.has_room.ensures (sym w.value-is ∙ e) a.plan.now a.block.now)
+      | else-s-end w ↦ λ e. above_floor _ _ _ _ _ c.requires.0.within _ _ c.min-end.ensures w.if-s-end.false c.requires.2
+    ]

@@ -1,31 +1,14 @@
--- `starts::measure` meets its promise, from the bytes. Assumes nothing.
-use Rattle.starts.proofs.Ends.{pattern-good, block-good, measure-pattern, measure-block, measure-answered}
+-- `starts::measure`, from the bytes. Assumes nothing.
+use Rattle.std.proofs.Common.{◌∙◌}
+use Rattle.rule.specs.Calls.{MeasureCall}
+use Rattle.starts.proofs.Ends.{pattern-good, block-good, measure-answered}
 use Rattle.starts.proofs.measure.Goals as goal
 
-pub returns-then-checked-ne0 : goal.returns-then-checked-ne0
-returns-then-checked-ne0 c = let a = c.args in
-    let checked = c.check_pattern-checked in
-    measure-pattern a.pattern.now a.block.now checked.result checked.ensures c.if-checked-ne0.true c.refusal.result c.refusal.ensures
-
-pub returns-then-input-ne0 : goal.returns-then-input-ne0
-returns-then-input-ne0 c = let a = c.args in
-    let checked = c.check_pattern-checked in
-    let input = c.check_block-input in
-    measure-block a.pattern.now a.block.now checked.result checked.ensures c.if-checked-ne0.false input.result input.ensures c.if-input-ne0.true
-
 pub pass-requires : goal.pass-requires
-pass-requires c = let a = c.args in
-    let checked = c.check_pattern-checked in
-    let good = c.if-checked-ne0.false in
-    let input = c.check_block-input in (
-      pattern-good a.pattern.now a.block.now checked.result checked.ensures good input.result input.ensures,
-      block-good a.pattern.now a.block.now checked.result checked.ensures good input.result input.ensures c.if-input-ne0.false,
-    )
+pass-requires c = (pattern-good _ _ _ c.in-Ok.ensures, block-good _ _ _ c.in-Ok.ensures)
 
-pub returns : goal.returns
-returns c = let a = c.args in
-    let checked = c.check_pattern-checked in
-    let input = c.check_block-input in
-    let run = c.pass in
-    measure-answered a.pattern.now a.block.now checked.result checked.ensures c.if-checked-ne0.false input.result input.ensures c.if-input-ne0.false
-    _ run.new.res run.result run.ensures c.measured.result c.measured.ensures
+pub returns-in-Ok : goal.returns-in-Ok
+returns-in-Ok c = measure-answered _ _ _ c.in-Ok.ensures _ _ _ c.pass.ensures _ c.measured.ensures
+
+pub returns-in-Err : goal.returns-in-Err
+returns-in-Err c = MeasureCall.refused_input c.in-Err.ensures.0 (c.from.ensures ∙ c.in-Err.ensures.1)

@@ -1,38 +1,17 @@
--- `starts::start_by_start` meets its promise, from the bytes. Assumes nothing.
-use native.Mathlib.Omega.{arith}
-use mathlib.Core.Path.{◌∙◌}
-use lib.ListN.{length}
-use Rattle.starts.proofs.Ends.{pattern-good, block-good, call-pattern, call-block, call-answered}
+-- `starts::start_by_start`, from the bytes. Assumes nothing.
+use Rattle.std.proofs.Common.{arith, ◌∙◌}
+use Rattle.rule.specs.Calls.{StartByStartCall}
+use Rattle.starts.proofs.Ends.{pattern-good, block-good, call-answered}
 use Rattle.starts.proofs.start_by_start.Goals as goal
 
-pub returns-then-checked-ne0 : goal.returns-then-checked-ne0
-returns-then-checked-ne0 c = let a = c.args in
-    let checked = c.check_pattern-checked in
-    let refuse = c.refuse in
-    call-pattern a.pattern.now a.block.now checked.result checked.ensures c.if-checked-ne0.true (length a.res.now) refuse.result refuse.new.res (refuse.ensures.0 ∙ c.refusal.ensures) refuse.ensures.1
-
-pub returns-then-input-ne0 : goal.returns-then-input-ne0
-returns-then-input-ne0 c = let a = c.args in
-    let checked = c.check_pattern-checked in
-    let input = c.check_block-input in
-    let refuse = c.refuse-then-input-ne0 in
-    call-block a.pattern.now a.block.now checked.result checked.ensures c.if-checked-ne0.false input.result input.ensures c.if-input-ne0.true (length a.res.now) refuse.result refuse.new.res refuse.ensures.0 refuse.ensures.1
-
 pub pass-counts-requires : goal.pass-counts-requires
-pass-counts-requires c = let a = c.args in
-    let checked = c.check_pattern-checked in
-    let good = c.if-checked-ne0.false in
-    let input = c.check_block-input in (
-      pattern-good a.pattern.now a.block.now checked.result checked.ensures good input.result input.ensures,
-      block-good a.pattern.now a.block.now checked.result checked.ensures good input.result input.ensures c.if-input-ne0.false,
-    )
+pass-counts-requires c = (pattern-good _ _ _ c.in-Ok.ensures, block-good _ _ _ c.in-Ok.ensures)
 
-pub returns : goal.returns
-returns c = let st = c in
-    let a = st.args in
-    let checked = c.check_pattern-checked in
-    let input = c.check_block-input in
-    let run = c.pass-counts in
-    let last = c.finish in
-    call-answered a.pattern.now a.block.now checked.result checked.ensures c.if-checked-ne0.false input.result input.ensures c.if-input-ne0.false
-    (length a.res.now) run.new.res run.result run.ensures (omega arith) last.result last.new.res last.ensures.0 last.ensures.1
+pub returns-in-Ok : goal.returns-in-Ok
+returns-in-Ok c = let last = c.finish.ensures in
+    call-answered _ _ _ c.in-Ok.ensures _ _ _ c.pass-counts.ensures (omega arith) _ _ last.0 last.1
+
+pub returns-in-Err : goal.returns-in-Err
+returns-in-Err c = let e = c.in-Err.ensures in
+    let refuse = c.refuse.ensures in
+    StartByStartCall.refused_input e.0 (refuse.0 ∙ e.1) refuse.1

@@ -1,6 +1,5 @@
--- `states::list_states` meets its contract. The loop's invariant: the states before the place are linked.
--- Assumes nothing.
-use Prim.Native.Nat.{◌-◌, ◌≤◌}
+-- `states::list_states`: the states before the place are linked. Assumes nothing.
+use Rattle.std.proofs.Common.{◌-◌, ◌≤◌}
 use Rattle.states.specs.States.{most_states, Listed}
 use Rattle.states.proofs.list_states.Given as goal
 

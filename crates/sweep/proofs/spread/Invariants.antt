@@ -1,5 +1,4 @@
--- `sweep::spread` meets its contract. The loop's invariant: the states that the variables not left lead to are raised.
--- Assumes nothing.
+-- `sweep::spread`: the states that the variables not left lead to are raised. Assumes nothing.
 use Rattle.sweep.proofs.Starts.{Spreading}
 use Rattle.sweep.proofs.spread.Given as goal
 

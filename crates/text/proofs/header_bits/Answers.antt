@@ -1,5 +1,5 @@
 -- `text::header_bits` meets its contract. Assumes nothing.
-use native.Mathlib.Omega.{arith}
+use Rattle.std.proofs.Common.{arith}
 use Rattle.form.specs.Packed.{header_bits}
 use Rattle.text.proofs.header_bits.Goals as goal
 

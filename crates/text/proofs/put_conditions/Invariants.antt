@@ -1,15 +1,11 @@
 -- `text::put_conditions` meets its contract. The loop's invariant: the first i words have been put. Assumes nothing.
-use mathlib.Core.Path.{◌≡◌}
+use Rattle.std.proofs.Common.{◌≡◌, ◌+◌, ◌*◌, take}
 use mathlib.Core.List.{flat_map}
-use Prim.Native.Nat.{◌+◌, ◌-◌, ◌*◌, ◌≤◌}
-use lib.ListN.{length, take}
 use Rattle.numbers.specs.Bytes.{word_bytes}
 use Rattle.numbers.specs.Put.{Put}
 use Rattle.text.proofs.put_conditions.Given as goal
 
 abbrev pub invariant-loop-i : goal.invariant-loop-i
-invariant-loop-i l = (l.i ≤ l.c) × (l.at + 256 ≤ length l.bytes) × (l.end ≡ l.at + 8 * l.i)
-    × Put l.initial.bytes l.bytes l.at (flat_map word_bytes (take l.i l.d.conditions)) l.end
-
-abbrev pub decreases-loop-i : goal.decreases-loop-i
-decreases-loop-i l = l.c - l.i
+invariant-loop-i l =
+    (l.end ≡ l.at + 8 * l.i)
+    × Put l.initial.bytes l.bytes l.at (flat_map word_bytes (take l.i l.fn.d.conditions)) l.end

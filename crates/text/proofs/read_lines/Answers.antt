@@ -1,65 +1,39 @@
--- `text::read_lines` meets its contract. The loop's invariant: the lines before a place are read. Assumes nothing.
-use mathlib.Core.Path.{refl}
-use mathlib.Core.Bool.{not}
-use native.Mathlib.Omega.{arith}
-use lib.Dec.{eqb}
-use Rattle.form.specs.Items.{finished}
-use Rattle.text.specs.Texts.{TextRead}
-use Rattle.text.proofs.Progress.{begin, one_more, bad-here, cut-here, read_all}
+-- `text::read_lines` meets its contract. Assumes nothing.
+use Rattle.std.proofs.Common.{ap}
+use Rattle.drafts.specs.Drafts.{phase_of}
+use Rattle.text.proofs.Progress.{begin, one_more, bad-here, cut-here, only-finished, unfinished-here, finished-here}
 use Rattle.text.proofs.read_lines.Goals as goal
 
 pub loop-at-init : goal.loop-at-init
-loop-at-init c = let e = c.blank-draft.ensures in
-    begin c.args.text.now c.blank-draft.result e.0 e.1
+loop-at-init c = let e = c.blank-draft.ensures in begin c.args.text.now c.blank-draft.result e.0 e.1
 
-pub line_end-end-requires : goal.line_end-end-requires
-line_end-end-requires c = omega arith
+pub returns-in_default : goal.returns-in_default
+returns-in_default c =
+    let h = c.loop-at in
+    cut-here c.args.text.now h.draft h.line h.at h.invariant c.loop-at-test.true c.in_default.ensures
 
-pub returns-then-end-text : goal.returns-then-end-text
-returns-then-end-text c = let h = c.loop-at in
-    let text = c.args.text.now in
-    let e = c.line_end-end in
-    TextRead.bad
-    (cut-here text h.draft h.line h.at h.invariant e.result e.ensures (omega arith) (omega arith))
-    refl
-
-pub slice_bounds-read_line-count : goal.slice_bounds-read_line-count
-slice_bounds-read_line-count c = omega arith
-
-pub read_line-draft-requires : goal.read_line-draft-requires
-read_line-draft-requires c = c.loop-at.invariant.small
-
-pub returns-then-draft : goal.returns-then-draft
-returns-then-draft c = let h = c.loop-at in
-    let text = c.args.text.now in
-    let e = c.line_end-end in
-    let r = c.read_line-draft in
-    TextRead.bad
-    (bad-here text h.draft h.line h.at h.invariant e.result e.ensures r.result (omega arith)
-    (r.ensures.1 h.invariant.items h.invariant.valid h.invariant.told)
-    c.if-draft.true)
-    refl
-
-pub overflow_add-line : goal.overflow_add-line
-overflow_add-line c = omega arith
-
-pub overflow_add-at : goal.overflow_add-at
-overflow_add-at c = omega arith
-
-pub loop-at-smaller : goal.loop-at-smaller
-loop-at-smaller c = omega arith
+pub returns-in_default-read_line : goal.returns-in_default-read_line
+returns-in_default-read_line c =
+    let h = c.loop-at in
+    let p = h.invariant in
+    bad-here c.args.text.now h.draft h.line h.at p _ c.in-Some.ensures
+    (c.in_default-read_line.ensures.line p.items p.valid p.told)
 
 pub loop-at-preserved : goal.loop-at-preserved
-loop-at-preserved c = let h = c.loop-at in
-    let text = c.args.text.now in
-    let e = c.line_end-end in
-    let r = c.read_line-draft in
-    one_more text h.draft h.line h.at h.invariant e.result e.ensures r.result (omega arith)
-    r.ensures.0
-    (r.ensures.1 h.invariant.items h.invariant.valid h.invariant.told)
-    c.if-draft.false
+loop-at-preserved c =
+    let h = c.loop-at in
+    let p = h.invariant in
+    let r = c.in-Some-read_line in
+    one_more c.args.text.now h.draft h.line h.at p _ c.in-Some.ensures r.more r.ensures.small
+    (r.ensures.line p.items p.valid p.told)
 
-pub returns : goal.returns
-returns c = let h = c.loop-at in
-    let text = c.args.text.now in
-    read_all text h.draft h.line h.at h.invariant (omega arith) (not (eqb h.draft.phase finished)) refl
+pub returns-in-Finished : goal.returns-in-Finished
+returns-in-Finished c =
+    let h = c.loop-at in
+    finished-here c.args.text.now h.draft h.line h.at h.invariant c.loop-at-test.false (ap phase_of c.in-Finished.is)
+
+pub returns-in_default-phase : goal.returns-in_default-phase
+returns-in_default-phase c =
+    let h = c.loop-at in
+    unfinished-here c.args.text.now h.draft h.line h.at h.invariant c.loop-at-test.false
+    (λ e. c.in_default-phase.not-Finished (only-finished h.draft.phase e))

@@ -1,6 +1,5 @@
 -- `text::read_lines` meets its contract. The loop's invariant: the lines before a place are read. Assumes nothing.
-use Prim.Native.Nat.{◌-◌}
-use lib.ListN.{length}
+use Rattle.std.proofs.Common.{◌-◌, length}
 use Rattle.text.proofs.Progress.{Progress}
 use Rattle.text.proofs.read_lines.Given as goal
 

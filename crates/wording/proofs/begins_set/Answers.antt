@@ -7,6 +7,6 @@ pub returns-then-v-eq0 : goal.returns-then-v-eq0
 unfolding begins_set
 returns-then-v-eq0 c = rw (eq-eqb _ _ c.if-v-eq0.true, begins_set)
 
-pub returns : goal.returns
+pub returns-else-v-eq0 : goal.returns-else-v-eq0
 unfolding begins_set
-returns c = rw (ne_eqb _ _ c.if-v-eq0.false, begins_set)
+returns-else-v-eq0 c = rw (ne_eqb _ _ c.if-v-eq0.false, begins_set)

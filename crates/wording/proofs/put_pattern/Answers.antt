@@ -1,5 +1,5 @@
 -- `wording::put_pattern` meets its contract: the set lines, the when lines, the within line. Assumes nothing.
-use native.Mathlib.Omega.{arith}
+use Rattle.std.proofs.Common.{arith}
 use Rattle.numbers.proofs.Put.{put_then}
 use Rattle.form.specs.Form.{text_of}
 use Rattle.wording.specs.Wording.{making_of}
@@ -7,7 +7,4 @@ use Rattle.wording.proofs.put_pattern.Goals as goal
 
 pub returns : goal.returns
 unfolding text_of making_of
-returns c = let s = c.put_sets-sets in
-    let w = c.put_whens-whens in
-    let e = c.put_within in
-    (put_then s.ensures.0 (put_then w.ensures.0 e.ensures.0), omega arith)
+returns c = (put_then c.put_sets-sets.ensures.0 (put_then c.put_whens-whens.ensures.0 c.put_within.ensures.0), omega arith)

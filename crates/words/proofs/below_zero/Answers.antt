@@ -1,24 +1,17 @@
 -- `words::below_zero` meets its contract. Assumes nothing.
-use mathlib.Core.Path.{refl}
-use native.Mathlib.Omega.{arith}
-use borrow.Author.Tests.{not-true, not-false}
-use Rattle.words.proofs.Constants.{natural-yes, below_other, below-no-number, below-far, below-found}
+use Rattle.std.proofs.Common.{arith}
+use Rattle.words.proofs.Constants.{below_other, below-far, below-found}
 use Rattle.words.proofs.below_zero.Goals as goal
 
 pub returns-then-attribute-ne-AMOUNT : goal.returns-then-attribute-ne-AMOUNT
-returns-then-attribute-ne-AMOUNT c = below_other _ _ _ c.no_constant.ensures c.if-attribute-ne-AMOUNT.true
+returns-then-attribute-ne-AMOUNT c = below_other _ _ c.if-attribute-ne-AMOUNT.true
 
-pub returns-then-not-n : goal.returns-then-not-n
-returns-then-not-n c = below-no-number _ _ _ _ c.no_constant-then-not-n.ensures c.natural-n.ensures (not-true _ c.if-not-n.true)
+pub returns-in-1-to-2147483648 : goal.returns-in-1-to-2147483648
+returns-in-1-to-2147483648 c =
+    below-found _ _ _ c.if-attribute-ne-AMOUNT.false c.in_ok-value.ensures (omega arith) (omega arith)
 
-pub returns-then-value-eq0 : goal.returns-then-value-eq0
-returns-then-value-eq0 c = let k = natural-yes c.natural-n.ensures (not-false _ c.if-not-n.false) in
-    below-far _ _ _ _ c.no_constant-then-value-eq0.ensures k (λ h. absurd (omega arith))
+pub returns-in_default : goal.returns-in_default
+returns-in_default c = below-far _ _ _ c.in_ok-value.ensures (λ h. omega arith)
 
-pub returns-then-value-gt2147483648 : goal.returns-then-value-gt2147483648
-returns-then-value-gt2147483648 c = let k = natural-yes c.natural-n.ensures (not-false _ c.if-not-n.false) in
-    below-far _ _ _ _ c.no_constant-then-value-gt2147483648.ensures k (λ h. omega arith)
-
-pub returns : goal.returns
-returns c = let k = natural-yes c.natural-n.ensures (not-false _ c.if-not-n.false) in
-    below-found _ _ _ _ c.if-attribute-ne-AMOUNT.false k c.if-value-eq0.false (omega arith) refl
+pub returns-in_default-2 : goal.returns-in_default-2
+returns-in_default-2 c = below-far _ _ _ c.in_ok-value.ensures (λ h. omega arith)

@@ -1,46 +1,31 @@
--- `words::natural` meets its contract. The loop's invariant: the bytes passed are digits, and the value is the number
--- that they stand for. Assumes nothing.
-use mathlib.Core.Path.{refl}
-use native.Mathlib.Omega.{arith}
+-- `words::natural` meets its contract. Assumes nothing.
+use Rattle.std.proofs.Common.{arith, refl}
 use Rattle.words.proofs.Numerals.{natural-empty, natural-zero, natural-other, read_none, read_more, natural-read}
 use Rattle.words.proofs.natural.Goals as goal
-use Rattle.words.proofs.natural.Goals.{then-word-gt1+else-word-eq48, else-word-gt1}
+use Rattle.words.proofs.natural.Goals.{in_default, in_default-2}
 
-pub returns-then-word-eq0 : goal.returns-then-word-eq0
-returns-then-word-eq0 c = natural-empty _ _ c.no_natural.ensures c.if-word-eq0.true
+pub returns-in-empty : goal.returns-in-empty
+returns-in-empty c = natural-empty _ (omega arith)
 
-pub bounds-word-0 : goal.bounds-word-0
-bounds-word-0 c = omega arith
+pub returns-in-empty-2 : goal.returns-in-empty-2
+returns-in-empty-2 c = natural-zero _ (omega arith) (omega arith)
 
-pub returns-then-word-eq48 : goal.returns-then-word-eq48
-returns-then-word-eq48 c = natural-zero _ _ c.no_natural-then-word-eq48.ensures c.if-word-gt1.true c.if-word-eq48.true
+pub loop-glyph-init : goal.loop-glyph-init
+loop-glyph-init c =
+    elim c.if-word-lt2.branch [
+      | in_default w ↦ read_none _ (omega arith) (λ h e. omega arith)
+      | in_default-2 w ↦ read_none _ (omega arith) (λ h e. omega arith)
+    ]
 
-pub loop-i-init : goal.loop-i-init
-loop-i-init c = read_none _ (omega arith) (elim c.if-word-gt1.branch [ then-word-gt1+else-word-eq48 w ↦ λ h. w.if-word-eq48.false | else-word-gt1 w ↦ λ h. absurd (omega arith) ])
+pub returns-in_default-glyph : goal.returns-in_default-glyph
+returns-in_default-glyph c = natural-other _ c.loop-glyph.glyph-index (omega arith) (λ d. omega (arith, d.from, d.upto))
 
-pub byte-glyph-requires : goal.byte-glyph-requires
-byte-glyph-requires c = omega arith
+pub returns-in_default-glyph-2 : goal.returns-in_default-glyph-2
+returns-in_default-glyph-2 c = natural-other _ c.loop-glyph.glyph-index (omega arith) (λ d. omega (arith, d.from, d.upto))
 
-pub returns-then-glyph-lt48 : goal.returns-then-glyph-lt48
-returns-then-glyph-lt48 c = natural-other _ _ c.loop-i.i c.no_natural-then-glyph-lt48.ensures (omega arith)
-    (λ d. omega (arith, d.from, c.byte-glyph.ensures))
-
-pub returns-then-glyph-gt57 : goal.returns-then-glyph-gt57
-returns-then-glyph-gt57 c = natural-other _ _ c.loop-i.i c.no_natural-then-glyph-gt57.ensures (omega arith)
-    (λ d. omega (arith, d.upto, c.byte-glyph.ensures))
-
-pub with_digit-value-requires : goal.with_digit-value-requires
-with_digit-value-requires c = omega (arith, c.loop-i.invariant.total)
-
-pub overflow_add-i : goal.overflow_add-i
-overflow_add-i c = omega arith
-
-pub loop-i-smaller : goal.loop-i-smaller
-loop-i-smaller c = omega arith
-
-pub loop-i-preserved : goal.loop-i-preserved
-loop-i-preserved c = read_more _ _ _ _ _ c.loop-i.invariant (omega arith)
-    c.byte-glyph.ensures (omega arith) (omega arith) c.with_digit-value.ensures
+pub loop-glyph-preserved : goal.loop-glyph-preserved
+loop-glyph-preserved c =
+    read_more _ _ _ _ _ c.loop-glyph.invariant (omega arith) refl (omega arith) (omega arith) c.with_digit-value.ensures
 
 pub returns : goal.returns
-returns c = natural-read _ _ _ _ c.loop-i.invariant c.loop-i-test.false refl
+returns c = natural-read _ _ _ c.loop-glyph.invariant c.loop-glyph-test.false

@@ -1,21 +1,21 @@
 -- `words::side` meets its contract. Assumes nothing.
-use mathlib.Core.Path.{refl}
-use native.Mathlib.Omega.{arith}
+use Rattle.std.proofs.Common.{arith}
 use Rattle.words.proofs.Sides.{side-short, side-no-dot, side-no-place, side-no-attribute, side-found}
 use Rattle.words.proofs.side.Goals as goal
 
-pub returns-then-word-lt2 : goal.returns-then-word-lt2
-returns-then-word-lt2 c = side-short _ _ _ c.no_side.ensures c.if-word-lt2.true
+pub returns-in_err-place_of-in-46 : goal.returns-in_err-place_of-in-46
+returns-in_err-place_of-in-46 c = rw c.from_residual.ensures (side-no-place _ _ c.in_err-place_of-in-46.ensures)
 
-pub returns-then-word-ne46 : goal.returns-then-word-ne46
-returns-then-word-ne46 c = side-no-dot _ _ _ c.no_side-then-word-ne46.ensures c.if-word-ne46.true
+pub returns-in_err-attribute_of-in-46 : goal.returns-in_err-attribute_of-in-46
+returns-in_err-attribute_of-in-46 c =
+    rw c.from_residual-in_err-attribute_of-in-46.ensures (side-no-attribute _ _ c.in_err-attribute_of-in-46.ensures)
 
-pub returns-then-place-eq0 : goal.returns-then-place-eq0
-returns-then-place-eq0 c = side-no-place _ _ _ _ _ c.no_side-then-place-eq0.ensures c.byte.ensures c.place_of-place.ensures c.if-place-eq0.true
+pub returns-in_ok-attribute_of-in-46 : goal.returns-in_ok-attribute_of-in-46
+returns-in_ok-attribute_of-in-46 c =
+    side-found _ _ _ _ (omega arith) (omega arith) c.in_ok-place_of-in-46.ensures c.in_ok-attribute_of-in-46.ensures
 
-pub returns-then-attribute-eq-ATTRIBUTES : goal.returns-then-attribute-eq-ATTRIBUTES
-returns-then-attribute-eq-ATTRIBUTES c = side-no-attribute _ _ _ _ c.no_side-then-attribute-eq-ATTRIBUTES.ensures c.attribute_of-attribute.ensures c.if-attribute-eq-ATTRIBUTES.true
+pub returns-in_default : goal.returns-in_default
+returns-in_default c = side-short _ _ (omega arith)
 
-pub returns : goal.returns
-returns c = side-found _ _ _ _ _ _ refl (omega arith) c.if-word-ne46.false c.byte.ensures
-    c.place_of-place.ensures c.if-place-eq0.false c.attribute_of-attribute.ensures c.if-attribute-eq-ATTRIBUTES.false
+pub returns-in_default-2 : goal.returns-in_default-2
+returns-in_default-2 c = side-no-dot _ _ (λ e. omega arith)

@@ -1,0 +1,6 @@
+-- `numbers::first_that` meets its contract: no number before v passes. Assumes nothing.
+use Rattle.std.proofs.Common.{◌≡◌, Bool, false, ℕ, ◌<◌}
+use Rattle.numbers.proofs.first_that.Given as goal
+
+abbrev pub invariant-loop-v : goal.invariant-loop-v
+invariant-loop-v g l = (p : ℕ → Bool) → ((v : ℕ) (r : Bool) → v < l.n → g.F.Fn.post l.test (v, tt) r → r ≡ p v) → (k : ℕ) → k < l.v → p k ≡ false

@@ -1,7 +1,0 @@
--- `records::type_at` meets its contract. Assumes nothing.
-use Rattle.records.specs.Records.{record_at}
-use Rattle.records.proofs.type_at.Goals as goal
-
-pub returns : goal.returns
-unfolding record_at
-returns c = c.byte.ensures
