@@ -133,6 +133,9 @@ pub fn can_exceed(
     ensures { result ≡ false
         → NoneOver plan.now block.now s slot.now j end }
 {
+    if end <= j {
+        return false;
+    }
     let variables = open_of(plan, s.n, slots::state_of(slot));
     let mut t = Tally {
         many: slots::count_of(slot),

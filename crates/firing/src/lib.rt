@@ -16,7 +16,7 @@ ghost use Rattle.firing.specs.Firing.{side_of, pair_meets, joins_by, agrees_by, 
 
 use patterns::{AMOUNT, CORE, Condition, SLOT, TYPE, WAVE};
 use plans::{BOTH_SIDES, FIRST_ORDER};
-pub use plans::{Plan, plan_of};
+pub use plans::{PLAN_ROOM, Plan, plan_of};
 
 // ## Once a record
 
@@ -81,11 +81,12 @@ fn settle_attribute(
     requires { Settling plan.now n c can block.now i × (attribute < both_sides) }
     ensures { (result ≡ settled_by plan.now n c block.now i attribute can) × Settling plan.now n c result block.now i }
 {
+    if plan.others(attribute) == 0 {
+        return can;
+    }
+    let x = patterns::raised_value(attribute, block, i);
     settle(plan, n, c, can, attribute, |k| {
-        (
-            patterns::raised_value(attribute, block, i),
-            patterns::raised_constant(attribute, k.constant),
-        )
+        (x, patterns::raised_constant(attribute, k.constant))
     })
 }
 

@@ -1,6 +1,6 @@
-// One case, a line of each call. What is written: code, place, used, readings and peak; of a pass every number of the
-// result, and its left-over byte where there is one; of the forward pass how many bytes of working memory are not 0
-// before the call, and how many after it.
+// One case, a line of each call. What is written: the call's name, before it is made; then code, place, used, readings
+// and peak; of a pass every number of the result, and its left-over byte where there is one; of the forward pass how
+// many bytes of working memory are not 0 before the call, and how many after it.
 use records::Answer;
 use std::io;
 use tables::{Numbers, ROOM};
@@ -29,23 +29,26 @@ pub(crate) fn case_row(out: &impl Print, row: &[u8]) -> io::Result<()> {
     work.fill(UNTOUCHED);
     res.fill(UNTOUCHED);
     let before = count_set(work);
+    print!(out; "forward ")?;
     let answer = forward::forward(pattern, block, tables::number(row, 0) as u32, work, res);
-    put_pass(out, "forward", answer, res)?;
+    put_pass(out, answer, res)?;
     println!(out; " | work {before} {}", count_set(work))?;
     res.fill(UNTOUCHED);
+    print!(out; "start by start ")?;
     let answer = starts::start_by_start(pattern, block, res);
-    put_pass(out, "start by start", answer, res)?;
+    put_pass(out, answer, res)?;
     println!(out)?;
-    println!(out; "measure {}", Numbers(starts::measure(pattern, block)))
+    print!(out; "measure ")?;
+    println!(out; "{}", Numbers(starts::measure(pattern, block)))
 }
 
 // How many bytes are not 0.
 fn count_set(memory: &[u8]) -> usize {
-    memory.iter().filter(|byte| **byte != 0).count()
+    numbers::count_that(memory.len(), |i| memory[i] != 0)
 }
 
-fn put_pass(out: &impl Print, name: &str, answer: Answer, res: &[u8]) -> io::Result<()> {
-    print!(out; "{name} {} |", Numbers(answer))?;
+fn put_pass(out: &impl Print, answer: Answer, res: &[u8]) -> io::Result<()> {
+    print!(out; "{} |", Numbers(answer))?;
     for i in 0..res.len() / 2 {
         print!(out; " {}", numbers::number2(res, 2 * i))?;
     }

@@ -27,28 +27,28 @@ const ORDERS_WEIGHT: u64 = 1 << FIRST_ORDER;
 const NO_CONDITION: u64 = 5 * ORDERS_WEIGHT;
 
 // How many event types one after the other share a place of the plan: all of them are of one class.
-const TYPES_TOGETHER: usize = 16;
+pub const TYPES_TOGETHER: usize = 16;
 
 const TYPE_PLACES: usize = 256 / TYPES_TOGETHER;
 
 // Where the masks stand: before, after and marks for each variable, then joins; those by class; the others by kind.
-const FIRST_MASK: usize = patterns::MOST_CONDITIONS;
+pub const FIRST_MASK: usize = patterns::MOST_CONDITIONS;
 
-const FIRST_AFTER: usize = FIRST_MASK + patterns::MOST_VARIABLES;
+pub const FIRST_AFTER: usize = FIRST_MASK + patterns::MOST_VARIABLES;
 
-const FIRST_MARKS: usize = FIRST_AFTER + patterns::MOST_VARIABLES;
+pub const FIRST_MARKS: usize = FIRST_AFTER + patterns::MOST_VARIABLES;
 
-const FIRST_JOINS: usize = FIRST_MARKS + patterns::MOST_VARIABLES;
+pub const FIRST_JOINS: usize = FIRST_MARKS + patterns::MOST_VARIABLES;
 
-const FIRST_CLASS: usize = FIRST_JOINS + patterns::MOST_VARIABLES;
+pub const FIRST_CLASS: usize = FIRST_JOINS + patterns::MOST_VARIABLES;
 
-const OTHERS: usize = FIRST_CLASS + TYPE_PLACES;
+pub const OTHERS: usize = FIRST_CLASS + TYPE_PLACES;
 
 // How many numbers a plan has.
 pub const PLAN_ROOM: usize = OTHERS + BOTH_SIDES as usize + 1;
 
 // What a pass prepares once a call: contracts see its numbers.
-#[derive(Drop)]
+#[derive(Clone, Copy, Debug, PartialEq, Eq)]
 pub struct Plan {
     pub numbers: [u64; PLAN_ROOM],
 }
@@ -57,6 +57,8 @@ impl Model for Plan {
     ghost Value = { List ℕ };
 
     ghost view = { λ p. p.numbers };
+
+    ghost inverse = { λ l. record { numbers = l } };
 }
 
 impl Plan {

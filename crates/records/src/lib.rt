@@ -195,8 +195,9 @@ fn is_late(block: &[u8], i: usize) -> bool
     i != 0 && is_misplaced(block, i)
 }
 
-// What record i is refused by: 6, 7 or 0 for nothing, as `record_refusal` (Rule 8.14) numbers them. The checks go by
-// `judge_record`, which tells it as a `Refusal`.
+// What record i is refused by: 6, 7 or 0 for nothing, as `record_refusal` (Rule 8.14) numbers them.
+// Not inlined: the loops that go on past a run of events would have their ways out behind it, too far for short jumps.
+#[inline(never)]
 #[tactic(auto, unfolding(crate::specs::Blocks::record_refusal))]
 pub fn refusal_of(block: &[u8], i: usize) -> u8
     requires { record_bytes * i + record_bytes ≤ length block.now }
@@ -218,12 +219,10 @@ pub fn judge_record(block: &[u8], i: usize) -> Result<(), Refusal>
     ensures { MatchResult result (λ _. record_refusal block.now i ≡ 0)
         (λ r. (0 < record_refusal block.now i) × (code_of r ≡ record_refusal block.now i) × (place_of r ≡ i)) }
 {
-    if is_broken(block, i) {
-        Err(Refusal::Record(i as u32))
-    } else if is_late(block, i) {
-        Err(Refusal::Time(i as u32))
-    } else {
-        Ok(())
+    match refusal_of(block, i) {
+        0 => Ok(()),
+        6 => Err(Refusal::Record(i as u32)),
+        _ => Err(Refusal::Time(i as u32)),
     }
 }
 
@@ -247,6 +246,8 @@ pub fn goes_on(block: &[u8], i: usize, high: u8, least: u64) -> bool
 }
 
 // Where the events behind record i, which is in order, no longer go on.
+// No `for`: over a range the compiler takes other registers, and wherever the loop then stands one of its branches
+// crosses 32 bytes, so that on some processors the check takes nearly twice as long.
 fn run_end(block: &[u8], i: usize, count: usize) -> usize
     requires { (i < count) × (count ≡ record_count block.now) × (record_refusal block.now i ≡ 0) }
     ensures { (i < result) × (result ≤ count)
@@ -255,13 +256,15 @@ fn run_end(block: &[u8], i: usize, count: usize) -> usize
     let high = numbers::byte(block, RECORD_BYTES * i + 2);
     let low = numbers::number4(block, RECORD_BYTES * i + 3) as u64;
     let mut least = low + kind_at(block, i) as u64;
-    for at in i + 1..count {
+    let mut at = i + 1;
+    while at < count {
         if !goes_on(block, at, high, least) {
             return at;
         }
         least = numbers::number4(block, RECORD_BYTES * at + 3) as u64;
+        at += 1;
     }
-    count
+    at
 }
 
 // The count of records, or refusal 5, 6 or 7. Behind a record that is judged in full, i goes on past the run of events

@@ -2,6 +2,8 @@
 #![tactic(auto)]
 
 ghost use Rattle.std.specs.Prelude.{◌≡◌, length, replicate};
+ghost use Rattle.records.specs.Blocks.{block_answer};
+ghost use Rattle.records.specs.Refusals.{judged_as};
 ghost use Rattle.index.specs.Promises.{SearchCall};
 ghost use Rattle.search.specs.Judged.{Judged};
 
@@ -15,6 +17,15 @@ pub fn cleared(answer: Answer, work: &mut [u8], res: &mut [u8]) -> Answer
     numbers::clear(work);
     numbers::clear(res);
     answer
+}
+
+// The check of the block, as the function below asks it. Not inlined there, where the compiler would take its loop for
+// one that seldom runs, and place it so.
+#[inline(never)]
+fn judge(block: &[u8]) -> Result<usize, Refusal>
+    ensures { judged_as result ≡ block_answer block.now }
+{
+    records::judge(block)
 }
 
 // Whether the pattern cannot match the block, whatever is in it, by the index. Only where it cannot, the block and the
@@ -37,7 +48,7 @@ fn is_passed_over(
     if !index::cannot_match(p, index) {
         return Ok(false);
     }
-    records::judge(block)?;
+    judge(block)?;
     if forward::is_limit_broken(limit, lent) {
         return Err(Refusal::Limit);
     }

@@ -134,5 +134,5 @@ pub fn put_line(res: &mut [u8], at: usize, mark: u8, slot: &[u8])
     let last = 4 + 2 * count;
     res[at] = mark * 16;
     res[at + 1] = count as u8;
-    res[start..end].copy_from_slice(&slot[4..last]);
+    numbers::copy(&mut res[start..end], &slot[4..last]);
 }

@@ -1,13 +1,22 @@
 -- `exceeds::can_exceed` meets its contract. Assumes nothing.
 use Rattle.std.proofs.Common.{arith, ◌<◌, ℕ, subst}
 use Rattle.records.specs.Records.{record_count}
-use Rattle.slots.specs.Slots.{held_in}
+use Rattle.slots.specs.Slots.{held_in, count_in}
 use Rattle.slots.proofs.Slots.{length-held_in}
 use Rattle.reach.proofs.Readings.{fit}
 use Rattle.reach.proofs.Masks.{read-bound}
 use Rattle.exceeds.specs.Open.{IsOpen}
 use Rattle.exceeds.proofs.Bounds.{Fixed, few-first, few-turn, few-over}
 use Rattle.exceeds.proofs.can_exceed.Goals as goal
+
+pub returns-then-end-j : goal.returns-then-end-j
+returns-then-end-j c = λ _.
+    let a = c.args in
+    let most = c.requires.0.reads.few in
+    let held = length-held_in a.slot.now in
+    few-over a.plan.now a.block.now a.s a.slot.now a.j a.j a.end (record { many = count_in a.slot.now; single = 0 })
+    (few-first a.plan.now a.block.now a.s.n a.s.c (held_in a.slot.now).bindings a.j _ (omega arith))
+    (omega arith) (omega arith)
 
 pub loop-i-init : goal.loop-i-init
 loop-i-init c =

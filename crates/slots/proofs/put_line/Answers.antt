@@ -6,4 +6,4 @@ pub returns : goal.returns
 returns c =
     let a = c.args in
     let n = c.count_of-count in
-    line-put a.res.now a.slot.now _ a.at a.mark n.result n.ensures c.requires.0 c.requires.1 c.requires.2 (λ k. (c.type_inv.slot k).fits) c.requires.3 c.copy_from_slice.ensures.after
+    line-put a.res.now a.slot.now _ a.at a.mark n.result n.ensures c.requires.0 c.requires.1 c.requires.2 (λ k. (c.type_inv.slot k).fits) c.requires.3 c.copy.ensures
